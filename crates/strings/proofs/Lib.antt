@@ -1,0 +1,14 @@
+pub mod Below
+pub mod Digits
+pub mod Value
+pub mod Shape
+pub mod Answer
+pub mod RelativeCode
+pub mod Symbols
+pub mod Sums
+pub mod Fold
+pub mod Judge
+pub mod CheckAnswers
+pub mod Flips
+pub mod Encode
+pub mod CheckRule

@@ -1,0 +1,66 @@
+-- The three public calls on strings, each with one relation between what it was handed, its answer and what it left in the output.
+-- Assumes nothing.
+use Prim.Native.Nat.{ℕ}
+use mathlib.Core.Bool.{Bool, not}
+use mathlib.Core.List.{List, [], _∷_}
+use lib.Dec.{eqb}
+use lib.ListN.{length}
+use Rattle.strings.specs.declared.Checked.{Checked}
+use Rattle.strings.specs.declared.Checked.the-variants.{Taken, Refused}
+use Rattle.strings.specs.declared.Written.{Written}
+use Rattle.strings.specs.declared.Written.the-variants.{Done, Refused as Refused′}
+use Rattle.strings.specs.declared.hamming.Ruling.{Ruling}
+use Rattle.strings.specs.declared.hamming.Ruling.the-variants.{Sound, Damaged}
+use Rattle.strings.specs.Number.{numberOf, misshapen, bitOf, stringBytes}
+use Rattle.strings.specs.Relative.{readRelative, writeRelative}
+use Rattle.strings.specs.Hamming.{ruling, isDamaged, mended}
+use Rattle.strings.specs.Numbers.{refusalPaper, verdictPaper, Test, test, Answers}
+
+-- ROOM: "output not 11 bytes"
+abbrev pub noRoom : List ℕ → Bool
+noRoom out = not (eqb (length out) 11)
+
+-- IDLE: "bit 85 is 1"
+abbrev pub isIdle : ℕ → Bool
+isIdle n = eqb (bitOf n 85) 1
+
+-- ---- the answers in the paper's numbers: 0 where the call is taken
+abbrev pub writtenPaper : Written → List ℕ
+writtenPaper Done = 0 ∷ []
+writtenPaper (Refused′ r) = refusalPaper r
+
+abbrev pub checkedPaper : Checked → List ℕ
+checkedPaper (Taken v) = 0 ∷ verdictPaper v
+checkedPaper (Refused r) = refusalPaper r
+
+-- ---- "Relative code, reading: 12, 2"
+abbrev pub readingTests : List ℕ → List ℕ → List Test
+readingTests s out = test 12 (noRoom out) ∷ test 2 (misshapen s) ∷ []
+
+unfoldable pub ReadsRelative : List ℕ → List ℕ → Written → List ℕ → Type 0
+ReadsRelative s out r out′ = Answers (readingTests s out) [] (stringBytes (readRelative (numberOf s))) out (writtenPaper r) out′
+
+-- ---- "writing: 12, 2, 4"
+abbrev pub writingTests : List ℕ → List ℕ → List Test
+writingTests s out = test 12 (noRoom out) ∷ test 2 (misshapen s) ∷ test 4 (isIdle (numberOf s)) ∷ []
+
+unfoldable pub WritesRelative : List ℕ → List ℕ → Written → List ℕ → Type 0
+WritesRelative s out r out′ = Answers (writingTests s out) [] (stringBytes (writeRelative (numberOf s))) out (writtenPaper r) out′
+
+-- ---- "Check: 12, 2, 3, 4"; "After a repair bit 85 must be 0, else IDLE"
+abbrev pub checkTests : List ℕ → List ℕ → List Test
+checkTests s out =
+    test 12 (noRoom out)
+    ∷ test 2 (misshapen s)
+    ∷ test 3 (isDamaged (ruling (numberOf s)))
+    ∷ test 4 (isIdle (mended (numberOf s)))
+    ∷ []
+
+-- what a taken check tells: the verdict. A damaged string has none
+abbrev pub verdictTold : Ruling → List ℕ
+verdictTold (Sound v) = verdictPaper v
+verdictTold (Damaged d) = []
+
+unfoldable pub Checks : List ℕ → List ℕ → Checked → List ℕ → Type 0
+Checks s out r out′ =
+    Answers (checkTests s out) (verdictTold (ruling (numberOf s))) (stringBytes (mended (numberOf s))) out (checkedPaper r) out′

@@ -1,0 +1,75 @@
+-- The known strings of the paper ("Known strings and edges"), computed from the definitions: one table, in the paper's order.
+-- Assumes nothing.
+use mathlib.Core.Path.{_≡_, refl}
+use mathlib.Core.List.{List, [], _∷_}
+use Prim.Native.Nat.{ℕ, _+_, _*_, _^_}
+use Rattle.strings.specs.declared.Verdict.the-variants.{Clean, Repaired}
+use Rattle.strings.specs.declared.hamming.Damage.the-variants.{Unplaced, Even, Outside}
+use Rattle.strings.specs.declared.hamming.Ruling.the-variants.{Sound, Damaged}
+use Rattle.strings.specs.Number.{numberOf, flip, stringBytes}
+use Rattle.strings.specs.Relative.{readRelative, writeRelative}
+use Rattle.strings.specs.Hamming.{position, sumC, sumAll, syndrome, howMany, highest, placed, judge, ruling, sumsMade, encode}
+
+abbrev pub A : List ℕ
+A = 0x08 ∷ 0 ∷ 0 ∷ 0 ∷ 0 ∷ 0 ∷ 0 ∷ 0 ∷ 0 ∷ 0x06 ∷ 0x80 ∷ []
+
+abbrev pub B : List ℕ
+B = 0x0F ∷ 0xFF ∷ 0xFF ∷ 0xFF ∷ 0xFF ∷ 0xFF ∷ 0xFF ∷ 0xFF ∷ 0xFF ∷ 0xFB ∷ 0x00 ∷ []
+
+abbrev pub inverseB : List ℕ
+inverseB = 0xF0 ∷ 0 ∷ 0 ∷ 0 ∷ 0 ∷ 0 ∷ 0 ∷ 0 ∷ 0 ∷ 0x04 ∷ 0xF8 ∷ []
+
+abbrev pub zeros : List ℕ
+zeros = 0 ∷ 0 ∷ 0 ∷ 0 ∷ 0 ∷ 0 ∷ 0 ∷ 0 ∷ 0 ∷ 0 ∷ 0 ∷ []
+
+unfoldable pub a : ℕ
+a = numberOf A
+
+pub record Known : Type 0 where
+  -- A: m = 1, data zero, encoded: bits 81, 8, 7, 5 set. Clean
+  pub A-bits : a ≡ 2 ^ 80 + 2 ^ 7 + 2 ^ 6 + 2 ^ 4
+  pub A-encoded : stringBytes (encode (2 ^ 80)) ≡ A
+  pub A-clean : ruling a ≡ Sound Clean
+  -- B: A in relative form; both it and its inverse read as A
+  pub B-sent : stringBytes (writeRelative a) ≡ B
+  pub B-read : stringBytes (readRelative (numberOf B)) ≡ A
+  pub B-inverse-read : stringBytes (readRelative (numberOf inverseB)) ≡ A
+  -- A with bit 9 flipped: S = 3, repaired 9
+  pub flip-9-S : syndrome (flip a 9) ≡ 3
+  pub flip-9 : ruling (flip a 9) ≡ Sound (Repaired 9)
+  -- bit 85: S = 84, repaired 85
+  pub flip-85-S : syndrome (flip a 85) ≡ 84
+  pub flip-85 : ruling (flip a 85) ≡ Sound (Repaired 85)
+  -- bit 5: repaired 5
+  pub flip-5 : ruling (flip a 5) ≡ Sound (Repaired 5)
+  -- bit 8: DAMAGED
+  pub flip-8 : ruling (flip a 8) ≡ Damaged Unplaced
+  -- bits 9, 10: DAMAGED
+  pub flip-9-10 : ruling (flip (flip a 9) 10) ≡ Damaged Even
+  -- bits 85, 9, 8: S = 87, DAMAGED
+  pub flip-85-9-8-S : syndrome (flip (flip (flip a 85) 9) 8) ≡ 87
+  pub flip-85-9-8 : ruling (flip (flip (flip a 85) 9) 8) ≡ Damaged Outside
+  -- eleven zero bytes: clean
+  pub zeros-clean : ruling (numberOf zeros) ≡ Sound Clean
+
+pub known : Known
+unfolding a numberOf flip stringBytes readRelative writeRelative position sumC sumAll syndrome howMany highest placed judge ruling sumsMade encode
+known =
+    record {
+      A-bits = refl;
+      A-encoded = refl;
+      A-clean = refl;
+      B-sent = refl;
+      B-read = refl;
+      B-inverse-read = refl;
+      flip-9-S = refl;
+      flip-9 = refl;
+      flip-85-S = refl;
+      flip-85 = refl;
+      flip-5 = refl;
+      flip-8 = refl;
+      flip-9-10 = refl;
+      flip-85-9-8-S = refl;
+      flip-85-9-8 = refl;
+      zeros-clean = refl;
+    }

@@ -1,0 +1,8 @@
+pub mod Pick
+pub mod Number
+pub mod Relative
+pub mod Hamming
+pub mod Table413
+pub mod Numbers
+pub mod Calls
+pub mod Known

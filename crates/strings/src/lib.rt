@@ -1,0 +1,57 @@
+// The 85-bit navigation string of GLONASS: relative code, check and repair, and the numbers that
+// say no. A string is eleven bytes: bit 85 is the top bit of the first, the last three bits of the
+// eleventh are padding.
+mod bits;
+mod checking;
+mod hamming;
+mod numbers;
+mod relative;
+
+pub use bits::bit;
+pub use bits::flip_bit;
+pub use bits::well_shaped;
+pub use checking::check;
+pub use hamming::Damage;
+pub use hamming::Ruling;
+pub use hamming::examine;
+pub use hamming::make_check_bits;
+pub use numbers::number_of;
+pub use relative::from_relative;
+pub use relative::to_relative;
+
+// The numbers that say no, in the paper's order. RANGE tells its place: the top bit number of the
+// word that failed.
+pub enum Refusal {
+    Channel,
+    Shape,
+    Damaged,
+    Idle,
+    Number,
+    Early,
+    Stale,
+    OffBeat,
+    Conflict,
+    Range(u8),
+    Place,
+    Room,
+    Nothing,
+    Slot,
+}
+
+// What the check says of a string that it takes: as it came, or with the bit that it repaired.
+pub enum Verdict {
+    Clean,
+    Repaired(u8),
+}
+
+// The check's answer.
+pub enum Checked {
+    Taken(Verdict),
+    Refused(Refusal),
+}
+
+// The answer of a call that only writes.
+pub enum Written {
+    Done,
+    Refused(Refusal),
+}

@@ -1,0 +1,76 @@
+// The line that answers a request, in the paper's numbers.
+use crate::line::Text;
+use crate::line::put_hex;
+use crate::line::put_number;
+use crate::line::put_text;
+use strings::Checked;
+use strings::Refusal;
+use strings::Verdict;
+use strings::Written;
+ghost use Prim.Native.Nat.{_≤_};
+
+// `no N`, for RANGE `no 10 PLACE`.
+pub fn say_no(text: &mut Text, r: Refusal) -> usize
+    ensures { λ n. ⌜ n ≤ 512 ⌝ }
+{
+    let number = put_text(text, 0, b"no ");
+    let end = put_number(text, number, strings::number_of(r) as u64);
+    match r {
+        Refusal::Range(place) => {
+            let space = put_text(text, end, b" ");
+            put_number(text, space, place as u64)
+        }
+        _ => end,
+    }
+}
+
+// `bad OP`.
+pub fn say_bad(text: &mut Text, op: u8) -> usize
+    ensures { λ n. ⌜ n ≤ 512 ⌝ }
+{
+    let number = put_text(text, 0, b"bad ");
+    put_number(text, number, op as u64)
+}
+
+// `short COUNT`.
+pub fn say_short(text: &mut Text, count: usize) -> usize
+    ensures { λ n. ⌜ n ≤ 512 ⌝ }
+{
+    let number = put_text(text, 0, b"short ");
+    put_number(text, number, count as u64)
+}
+
+// `ok HEX`.
+pub fn say_written(text: &mut Text, w: Written, out: &[u8]) -> usize
+    ensures { λ n. ⌜ n ≤ 512 ⌝ }
+{
+    match w {
+        Written::Refused(r) => say_no(text, r),
+        Written::Done => {
+            let hex = put_text(text, 0, b"ok ");
+            put_hex(text, hex, out)
+        }
+    }
+}
+
+// `ok BIT HEX`, BIT 0 where the string was clean.
+pub fn say_checked(text: &mut Text, c: Checked, out: &[u8]) -> usize
+    ensures { λ n. ⌜ n ≤ 512 ⌝ }
+{
+    match c {
+        Checked::Refused(r) => say_no(text, r),
+        Checked::Taken(v) => {
+            let number = put_text(text, 0, b"ok ");
+            let space = put_number(text, number, bit_of(v) as u64);
+            let hex = put_text(text, space, b" ");
+            put_hex(text, hex, out)
+        }
+    }
+}
+
+fn bit_of(v: Verdict) -> u8 {
+    match v {
+        Verdict::Clean => 0,
+        Verdict::Repaired(i) => i,
+    }
+}

@@ -1,0 +1,57 @@
+// A line of output, written into a lent text from the place `at` on. Each function answers the place
+// past what it wrote. What does not fit is left out, which no answer reaches.
+ghost use Prim.Native.Nat.{_+_, _≤_};
+ghost use lib.ListN.{length};
+
+// Its length is part of its type, so that a bound on a number keeps a place within it.
+pub type Text = [u8; 512];
+
+pub fn put_text(text: &mut Text, at: usize, s: &[u8]) -> usize
+    requires { ⌜ at ≤ 512 ⌝ }
+    ensures { λ r. ⌜ r ≤ 512 ⌝ }
+{
+    if s.len() > 512 - at {
+        return at;
+    }
+    copy_to(text, at, s);
+    at + s.len()
+}
+
+// The text is a slice here, because a part of an array behind a reference cannot be lent.
+fn copy_to(text: &mut [u8], at: usize, s: &[u8])
+    requires { ⌜ at + length (now s) ≤ length (now text) ⌝ }
+{
+    bytes::copy(s, &mut text[at..]);
+}
+
+// A number in decimal.
+pub fn put_number(text: &mut Text, at: usize, n: u64) -> usize
+    requires { ⌜ at ≤ 512 ⌝ }
+    ensures { λ r. ⌜ r ≤ 512 ⌝ }
+{
+    let mut digits = [0u8; 20];
+    let k = io::decimal(n, &mut digits);
+    put_text(text, at, &digits[..k])
+}
+
+// Bytes in lower case hexadecimal.
+pub fn put_hex(text: &mut Text, at: usize, s: &[u8]) -> usize
+    requires { ⌜ at ≤ 512 ⌝ }
+    ensures { λ r. ⌜ r ≤ 512 ⌝ }
+{
+    let mut to = at;
+    for i in 0..s.len() {
+        to = put_pair(text, to, s[i]);
+    }
+    to
+}
+
+// A byte's two digits.
+fn put_pair(text: &mut Text, at: usize, b: u8) -> usize
+    requires { ⌜ at ≤ 512 ⌝ }
+    ensures { λ r. ⌜ r ≤ 512 ⌝ }
+{
+    let mut digits = [0u8; 16];
+    let k = io::hex(b as u64, 2, &mut digits);
+    put_text(text, at, &digits[..k])
+}

@@ -1,0 +1,14 @@
+//! A second, independent program for GLONASS navigation strings.
+//!
+//! It is written from the paper and GLONASS ICD 5.0 alone and is compared with
+//! the receiver card's own library, answer by answer.
+
+pub mod hamming;
+pub mod known;
+pub mod make;
+pub mod random;
+pub mod refusal;
+pub mod relative;
+pub mod request;
+pub mod string;
+pub mod trial;

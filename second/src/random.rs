@@ -1,0 +1,61 @@
+//! Numbers that look random but follow from a seed alone: splitmix64.
+
+use crate::hamming;
+use crate::string::{NavString, BITS, IDLE_BIT};
+
+/// Steele, Lea and Flood, "Fast splittable pseudorandom number generators"
+/// (2014): the state goes up by a fixed odd number and is mixed into each output.
+pub struct SplitMix64 {
+    state: u64,
+}
+
+impl SplitMix64 {
+    pub fn new(seed: u64) -> SplitMix64 {
+        SplitMix64 { state: seed }
+    }
+
+    pub fn number(&mut self) -> u64 {
+        self.state = self.state.wrapping_add(0x9E37_79B9_7F4A_7C15);
+        let mut mixed = self.state;
+        mixed = (mixed ^ (mixed >> 30)).wrapping_mul(0xBF58_476D_1CE4_E5B9);
+        mixed = (mixed ^ (mixed >> 27)).wrapping_mul(0x94D0_49BB_1331_11EB);
+        mixed ^ (mixed >> 31)
+    }
+
+    /// A number from 0 up to, but not including, `limit`.
+    pub fn below(&mut self, limit: usize) -> usize {
+        (self.number() % limit as u64) as usize
+    }
+
+    pub fn bytes(&mut self, count: usize) -> Vec<u8> {
+        (0..count).map(|_| self.number() as u8).collect()
+    }
+
+    /// A string with every bit at random, check bits and bit 85 too.
+    pub fn string(&mut self) -> NavString {
+        let mut string = NavString::zero();
+        for number in 1..=BITS {
+            string.set(number, self.below(2) == 1);
+        }
+        string
+    }
+
+    /// An encoded string with random data and bit 85 as told.
+    pub fn encoded_string(&mut self, idle: bool) -> NavString {
+        let mut string = self.string();
+        string.set(IDLE_BIT, idle);
+        hamming::encode(&string)
+    }
+
+    /// So many different bit numbers.
+    pub fn bit_numbers(&mut self, count: usize) -> Vec<usize> {
+        let mut numbers = Vec::new();
+        while numbers.len() < count {
+            let number = 1 + self.below(BITS);
+            if !numbers.contains(&number) {
+                numbers.push(number);
+            }
+        }
+        numbers
+    }
+}

@@ -1,0 +1,57 @@
+//! The numbers that say no.
+
+use std::fmt;
+
+/// Why a call is refused: the rows of the paper's table "Numbers that say no".
+#[derive(Clone, Copy, Debug, PartialEq, Eq)]
+pub enum Refusal {
+    Channel,
+    Shape,
+    Damaged,
+    Idle,
+    Number,
+    Early,
+    Stale,
+    OffBeat,
+    Conflict,
+    /// Names the word that fails by its top bit number.
+    Range {
+        place: usize,
+    },
+    Place,
+    Room,
+    Nothing,
+    Slot,
+}
+
+impl Refusal {
+    pub fn number(self) -> u8 {
+        match self {
+            Refusal::Channel => 1,
+            Refusal::Shape => 2,
+            Refusal::Damaged => 3,
+            Refusal::Idle => 4,
+            Refusal::Number => 5,
+            Refusal::Early => 6,
+            Refusal::Stale => 7,
+            Refusal::OffBeat => 8,
+            Refusal::Conflict => 9,
+            Refusal::Range { .. } => 10,
+            Refusal::Place => 11,
+            Refusal::Room => 12,
+            Refusal::Nothing => 13,
+            Refusal::Slot => 14,
+        }
+    }
+}
+
+/// "A refusal answers its number, with the place for RANGE, and nothing more."
+impl fmt::Display for Refusal {
+    fn fmt(&self, out: &mut fmt::Formatter) -> fmt::Result {
+        write!(out, "no {}", self.number())?;
+        match self {
+            Refusal::Range { place } => write!(out, " {place}"),
+            _ => Ok(()),
+        }
+    }
+}

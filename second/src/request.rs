@@ -1,0 +1,66 @@
+//! Requests to `trial`: one byte op, two bytes big-endian length, then that many
+//! bytes, one request after another.
+
+const HEADER: usize = 3;
+
+/// What a request asks for, by its op.
+pub const FROM_RELATIVE: u8 = 1;
+pub const TO_RELATIVE: u8 = 2;
+pub const CHECK: u8 = 3;
+
+#[derive(Clone, Copy, Debug, PartialEq, Eq)]
+pub struct Request<'a> {
+    pub op: u8,
+    pub payload: &'a [u8],
+}
+
+/// One step through the input: a whole request, or one cut short at the end with
+/// the count of its bytes from the op on.
+#[derive(Clone, Copy, Debug, PartialEq, Eq)]
+pub enum Piece<'a> {
+    Whole(Request<'a>),
+    Short(usize),
+}
+
+/// The pieces of an input, in order.
+pub struct Pieces<'a> {
+    rest: &'a [u8],
+}
+
+pub fn pieces(input: &[u8]) -> Pieces<'_> {
+    Pieces { rest: input }
+}
+
+impl<'a> Iterator for Pieces<'a> {
+    type Item = Piece<'a>;
+
+    fn next(&mut self) -> Option<Piece<'a>> {
+        if self.rest.is_empty() {
+            return None;
+        }
+        let Some((request, rest)) = split_request(self.rest) else {
+            let count = self.rest.len();
+            self.rest = &[];
+            return Some(Piece::Short(count));
+        };
+        self.rest = rest;
+        Some(Piece::Whole(request))
+    }
+}
+
+/// The first request and the bytes after it; none where the input ends within it.
+fn split_request(input: &[u8]) -> Option<(Request<'_>, &[u8])> {
+    let header = input.get(..HEADER)?;
+    let end = HEADER + usize::from(u16::from_be_bytes([header[1], header[2]]));
+    let payload = input.get(HEADER..end)?;
+    let op = header[0];
+    Some((Request { op, payload }, &input[end..]))
+}
+
+/// Writes a request at the end of an input.
+pub fn append(input: &mut Vec<u8>, op: u8, payload: &[u8]) {
+    let length = u16::try_from(payload.len()).expect("a payload has at most 65,535 bytes");
+    input.push(op);
+    input.extend(length.to_be_bytes());
+    input.extend(payload);
+}

@@ -1,0 +1,56 @@
+//! The numbers of the paper's table, and SHAPE and IDLE where strings come in.
+
+use second::known::{a, A};
+use second::refusal::Refusal;
+use second::relative::to_relative;
+use second::string::NavString;
+
+#[test]
+fn numbers_are_those_of_the_table() {
+    let in_order = [
+        Refusal::Channel,
+        Refusal::Shape,
+        Refusal::Damaged,
+        Refusal::Idle,
+        Refusal::Number,
+        Refusal::Early,
+        Refusal::Stale,
+        Refusal::OffBeat,
+        Refusal::Conflict,
+        Refusal::Range { place: 69 },
+        Refusal::Place,
+        Refusal::Room,
+        Refusal::Nothing,
+        Refusal::Slot,
+    ];
+    let numbers: Vec<u8> = in_order.iter().map(|refusal| refusal.number()).collect();
+    assert_eq!(numbers, (1..=14).collect::<Vec<u8>>());
+}
+
+#[test]
+fn only_range_names_a_place() {
+    assert_eq!(Refusal::Shape.to_string(), "no 2");
+    assert_eq!(Refusal::Range { place: 69 }.to_string(), "no 10 69");
+}
+
+#[test]
+fn every_length_but_eleven_is_shape() {
+    for length in (0..40).filter(|&length| length != 11) {
+        let bytes = vec![0; length];
+        assert_eq!(NavString::from_bytes(&bytes), Err(Refusal::Shape));
+    }
+}
+
+#[test]
+fn every_padding_but_zero_is_shape() {
+    for padding in 1..=7 {
+        let mut bytes = A;
+        bytes[10] |= padding;
+        assert_eq!(NavString::from_bytes(&bytes), Err(Refusal::Shape));
+    }
+}
+
+#[test]
+fn writing_relative_code_with_bit_85_set_is_idle() {
+    assert_eq!(to_relative(&a().flipped(&[85])), Err(Refusal::Idle));
+}
