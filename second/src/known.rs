@@ -25,7 +25,9 @@ pub fn a() -> NavString {
     NavString::from_bytes(&A).expect("A has eleven bytes and no padding set")
 }
 
-/// The fifteen strings of the received frame, plain, as bytes.
-pub fn received_strings() -> impl Iterator<Item = &'static [u8]> {
-    RECEIVED_FRAME.chunks(BYTES)
+/// The fifteen strings of the received frame, plain.
+pub fn received_frame() -> Vec<NavString> {
+    let strings = RECEIVED_FRAME.chunks(BYTES).map(NavString::from_bytes);
+    let strings: Result<_, _> = strings.collect();
+    strings.expect("a frame of whole strings")
 }

@@ -12,3 +12,4 @@ pub mod relative;
 pub mod request;
 pub mod string;
 pub mod trial;
+pub mod words;

@@ -1,14 +1,21 @@
 //! Makes the input that `trial` is run on, from a seed.
 
 mod strings;
+mod words;
 
 use crate::random::SplitMix64;
 use crate::request;
+use crate::string::BYTES;
+
+const RIGHT_ROOM: u8 = BYTES as u8;
+const WRONG_ROOMS: [u8; 8] = [0, 1, 10, 12, 22, 127, 128, 255];
+const WRONG_LENGTHS: [usize; 13] = [0, 1, 2, 8, 9, 10, 12, 13, 16, 22, 255, 256, 300];
 
 /// The same seed always gives the same bytes.
 pub fn trial_input(seed: u64) -> Vec<u8> {
     let mut input = Input::new(seed);
     strings::add_all(&mut input);
+    words::add_all(&mut input);
     input.add_unknown_ops();
     input.add_cut_short();
     input.bytes

@@ -2,6 +2,7 @@
 
 use crate::hamming;
 use crate::string::{NavString, BITS, IDLE_BIT};
+use crate::words::{self, kinds::Kind, word::Word};
 
 /// Steele, Lea and Flood, "Fast splittable pseudorandom number generators"
 /// (2014): the state goes up by a fixed odd number and is mixed into each output.
@@ -57,5 +58,31 @@ impl SplitMix64 {
             }
         }
         numbers
+    }
+
+    pub fn one_of<T: Copy>(&mut self, choices: &[T]) -> T {
+        choices[self.below(choices.len())]
+    }
+
+    pub fn legal_value(&mut self, word: &Word) -> i64 {
+        let (least, greatest) = word.limits();
+        loop {
+            let value = least + self.below((greatest - least + 1) as usize) as i64;
+            if word.is_legal(value) {
+                return value;
+            }
+        }
+    }
+
+    pub fn legal_values(&mut self, kind: &Kind) -> Vec<i64> {
+        let words = kind.words.iter();
+        words.map(|word| self.legal_value(word)).collect()
+    }
+
+    /// An encoded string of this kind, every word in range.
+    pub fn string_of(&mut self, kind: &Kind) -> NavString {
+        let m = self.one_of(kind.strings);
+        let values = self.legal_values(kind);
+        words::write(kind, m, &values).expect("legal words")
     }
 }

@@ -1,12 +1,16 @@
 //! Requests to `trial`: one byte op, two bytes big-endian length, then that many
 //! bytes, one request after another.
 
+use crate::words::kinds::{Kind, KINDS};
+
 const HEADER: usize = 3;
 
 /// What a request asks for, by its op.
 pub const FROM_RELATIVE: u8 = 1;
 pub const TO_RELATIVE: u8 = 2;
 pub const CHECK: u8 = 3;
+pub const READ: u8 = 4;
+pub const WRITE: u8 = 5;
 
 #[derive(Clone, Copy, Debug, PartialEq, Eq)]
 pub struct Request<'a> {
@@ -63,4 +67,34 @@ pub fn append(input: &mut Vec<u8>, op: u8, payload: &[u8]) {
     input.push(op);
     input.extend(length.to_be_bytes());
     input.extend(payload);
+}
+
+/// "Kinds: 1 to 5 are strings 1 to 5, 6 even, 7 odd, 8 string 14 of frame 5."
+pub fn kind_numbered(number: u8) -> Option<&'static Kind> {
+    let index = usize::from(number).checked_sub(1)?;
+    KINDS.get(index).copied()
+}
+
+pub fn number_of(kind: &Kind) -> u8 {
+    let index = KINDS.iter().position(|&other| other == kind);
+    index.expect("one of the eight kinds") as u8 + 1
+}
+
+/// A word's value travels as four bytes: two's complement, big-endian.
+pub const BYTES_OF_A_VALUE: usize = 4;
+
+pub fn values_from_bytes(bytes: &[u8]) -> Vec<i64> {
+    let (values, _) = bytes.as_chunks::<BYTES_OF_A_VALUE>();
+    values
+        .iter()
+        .map(|&value| i64::from(i32::from_be_bytes(value)))
+        .collect()
+}
+
+pub fn values_to_bytes(values: &[i64]) -> Vec<u8> {
+    let fits = |&value| i32::try_from(value).expect("a value has four bytes");
+    values
+        .iter()
+        .flat_map(|value| fits(value).to_be_bytes())
+        .collect()
 }

@@ -12,6 +12,10 @@ pub const BYTES: usize = 11;
 /// The last three bits of the eleventh byte are padding.
 pub const PADDING: u8 = 0b111;
 
+/// "Bits 84 to 81 are the string number m, 80 to 9 are data": top and lowest bit.
+pub const STRING_NUMBER: (usize, usize) = (84, 81);
+pub const DATA: (usize, usize) = (80, 9);
+
 /// A string's bits, or its symbols on the line. Bit number i is `bits[i - 1]`.
 #[derive(Clone, Copy, Debug, PartialEq, Eq)]
 pub struct NavString {
@@ -74,6 +78,34 @@ impl NavString {
     pub fn inverted(&self) -> NavString {
         NavString {
             bits: self.bits.map(|bit| !bit),
+        }
+    }
+
+    /// The number in the bits from `top` down to `low`: "in every word the highest
+    /// bit number is the highest weight".
+    pub fn number(&self, (top, low): (usize, usize)) -> u128 {
+        (low..=top)
+            .rev()
+            .fold(0, |number, bit| 2 * number + u128::from(self.bit(bit)))
+    }
+
+    /// Writes a number into the bits from `top` down to `low`.
+    pub fn set_number(&mut self, (top, low): (usize, usize), number: u128) {
+        for bit in low..=top {
+            self.set(bit, number >> (bit - low) & 1 == 1);
+        }
+    }
+
+    /// The string number m, 0 to 15.
+    pub fn m(&self) -> usize {
+        self.number(STRING_NUMBER) as usize
+    }
+
+    /// NUMBER: "m = 0".
+    pub fn require_m(&self) -> Result<usize, Refusal> {
+        match self.m() {
+            0 => Err(Refusal::Number),
+            m => Ok(m),
         }
     }
 

@@ -1,6 +1,6 @@
 -- A test that is computed at every number below n, and what it says of each.
 -- Assumes nothing.
-use mathlib.Core.Path.{_≡_, subst, sym}
+use mathlib.Core.Path.{_≡_, refl, subst, sym}
 use mathlib.Core.Bool.{Bool, true, false, _&&_}
 use mathlib.Core.Logic.{⊎-elim}
 use Prim.Native.Nat.{ℕ, zero, suc, _<_}
@@ -15,6 +15,11 @@ and-left false b t = t
 pub and-right : (a b : Bool) → T (a && b) → T b
 and-right true b t = t
 and-right false b t = absurd t
+
+-- a test that does not pass
+pub unfit : (b : Bool) → (T b → ⊥) → b ≡ false
+unfit true h = absurd (h tt)
+unfit false h = refl
 
 -- the test f passes at every number below n
 abbrev pub below : ℕ → (ℕ → Bool) → Bool

@@ -20,12 +20,13 @@ use Rattle.strings.specs.Number.{numberOf, misshapen, bitOf, flip, strin
 use Rattle.strings.specs.Hamming.{ruling, isDamaged, mended, mendedBy, Encoded}
 use Rattle.strings.specs.Numbers.{verdictPaper, Exactly, FitsAt}
 use Rattle.strings.specs.Calls.{Checks, checkTests, checkedPaper, isIdle}
+use Rattle.strings.proofs.Below.{unfit}
 use Rattle.strings.proofs.Digits.{bit-lt, flip-lt, flip-undo}
 use Rattle.strings.proofs.Value.{Bytes, number-lt, string-number}
 use Rattle.strings.proofs.Shape.{shaped, string-shaped}
 use Rattle.strings.proofs.Answer.{same-answer, checked-same, exactly, taken-made}
 use Rattle.strings.proofs.CheckAnswers.{check-damaged, check-idle, check-taken}
-use Rattle.strings.proofs.Judge.{names-bit}
+use Rattle.strings.proofs.Judge.{mended-lt}
 use Rattle.strings.proofs.Flips.{encoded-ruling, one-flip-ruling, bit-8-ruling, two-flips-ruling, left-encoded}
 
 -- ---- no second answer fits, and each number exactly where its test fits and none before it does
@@ -107,27 +108,18 @@ pub record Whole (s : List ℕ) : Type 0 where
   pub encoded : Encoded number
   pub idle : bitOf number 85 ≡ 0
 
-unfit : (b : Bool) → (T b → ⊥) → b ≡ false
-unfit true h = absurd (h tt)
-unfit false h = refl
-
-mended-lt : (n : ℕ) (r : Ruling) → n < 2 ^ 85 → ruling n ≡ r → mendedBy r n < 2 ^ 85
-mended-lt n (Sound Clean) h e = h
-mended-lt n (Sound (Repaired i)) h e = let l = names-bit n (Repaired i) e in flip-lt 85 n i h (l .0) (l .1)
-mended-lt n (Damaged d) h e = h
-
 module _ (s : List ℕ) (b : Bytes s) (out : List ℕ) (v : Verdict) (out′ : List ℕ) (a : Checks s out (Taken v) out′) where
   clear : (j : ℕ) → j < 4 → FitsAt (checkTests s out) j → ⊥
   clear = check-numbers s out (Taken v) out′ a .taken .0 refl
 
   pub written-whole : Whole out′
-  unfolding Checks mended
+  unfolding Checks
   written-whole =
       let n = numberOf s in
       let len = shaped s (unfit (misshapen s) (clear 1 (lit< tt))) .0 in
       record {
         number = mended n;
-        small = mended-lt n (ruling n) (number-lt s b len) refl;
+        small = mended-lt n (number-lt s b len);
         bytes = taken-made (verdictPaper v) a;
         encoded = left-encoded n (unfit (isDamaged (ruling n)) (clear 2 (lit< tt)));
         idle = omega (arith, bit-lt (mended n) 85, eqb-false (bitOf (mended n) 85) 1 (unfit (isIdle (mended n)) (clear 3 (lit< tt))));

@@ -13,6 +13,7 @@ use Rattle.strings.specs.declared.hamming.Ruling.{Ruling}
 use Rattle.strings.specs.declared.hamming.Ruling.the-variants.{Sound, Damaged}
 use Rattle.strings.specs.Hamming.{syndrome, sumAll, highest, howMany, placed, judge, ruling, mendedBy, mended, NamesBit}
 use Rattle.strings.proofs.Below.{and-left, and-right, below, below-at}
+use Rattle.strings.proofs.Digits.{flip-lt}
 use Rattle.strings.proofs.Sums.{syndrome-lt, sumAll-lt}
 
 beq→eq : (a b : Bool) → T (Bool·beq a b) → a ≡ b
@@ -82,3 +83,13 @@ names-bit n v e =
 pub mended-by : (n : ℕ) (v : Verdict) → ruling n ≡ Sound v → mended n ≡ mendedBy (Sound v) n
 unfolding mended
 mended-by n v e = ap (λ (r : Ruling). mendedBy r n) e
+
+mended-small : (n : ℕ) (r : Ruling) → n < 2 ^ 85 → ruling n ≡ r → mendedBy r n < 2 ^ 85
+mended-small n (Sound Clean) h e = h
+mended-small n (Sound (Repaired i)) h e = let l = names-bit n (Repaired i) e in flip-lt 85 n i h (l .0) (l .1)
+mended-small n (Damaged d) h e = h
+
+-- it is a string
+pub mended-lt : (n : ℕ) → n < 2 ^ 85 → mended n < 2 ^ 85
+unfolding mended
+mended-lt n h = mended-small n (ruling n) h refl

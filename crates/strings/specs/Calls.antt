@@ -47,14 +47,13 @@ writingTests s out = test 12 (noRoom out) ∷ test 2 (misshapen s) ∷ test 4 (i
 unfoldable pub WritesRelative : List ℕ → List ℕ → Written → List ℕ → Type 0
 WritesRelative s out r out′ = Answers (writingTests s out) [] (stringBytes (writeRelative (numberOf s))) out (writtenPaper r) out′
 
--- ---- "Check: 12, 2, 3, 4"; "After a repair bit 85 must be 0, else IDLE"
+-- ---- 2, 3, 4 of a plain string: "After a repair bit 85 must be 0, else IDLE"
+abbrev pub stringTests : List ℕ → List Test
+stringTests s = test 2 (misshapen s) ∷ test 3 (isDamaged (ruling (numberOf s))) ∷ test 4 (isIdle (mended (numberOf s))) ∷ []
+
+-- ---- "Check: 12, 2, 3, 4"
 abbrev pub checkTests : List ℕ → List ℕ → List Test
-checkTests s out =
-    test 12 (noRoom out)
-    ∷ test 2 (misshapen s)
-    ∷ test 3 (isDamaged (ruling (numberOf s)))
-    ∷ test 4 (isIdle (mended (numberOf s)))
-    ∷ []
+checkTests s out = test 12 (noRoom out) ∷ stringTests s
 
 -- what a taken check tells: the verdict. A damaged string has none
 abbrev pub verdictTold : Ruling → List ℕ

@@ -3,10 +3,12 @@ use crate::line::Text;
 use crate::line::put_hex;
 use crate::line::put_number;
 use crate::line::put_text;
+use crate::line::put_values;
 use strings::Checked;
 use strings::Refusal;
 use strings::Verdict;
 use strings::Written;
+use words::Reading;
 ghost use Prim.Native.Nat.{_≤_};
 
 // `no N`, for RANGE `no 10 PLACE`.
@@ -72,5 +74,20 @@ fn bit_of(v: Verdict) -> u8 {
     match v {
         Verdict::Clean => 0,
         Verdict::Repaired(i) => i,
+    }
+}
+
+// `ok M W1 W2 ..`, as many words as the kind has.
+pub fn say_read(text: &mut Text, r: Reading, count: usize) -> usize
+    requires { ⌜ count ≤ 8 ⌝ }
+    ensures { λ n. ⌜ n ≤ 512 ⌝ }
+{
+    match r {
+        Reading::Refused(q) => say_no(text, q),
+        Reading::Read(m, record) => {
+            let number = put_text(text, 0, b"ok ");
+            let end = put_number(text, number, m as u64);
+            put_values(text, end, words::list_of(record), count)
+        }
     }
 }

@@ -34,6 +34,32 @@ pub fn put_number(text: &mut Text, at: usize, n: u64) -> usize
     put_text(text, at, &digits[..k])
 }
 
+// A number that may be negative, in decimal.
+pub fn put_signed(text: &mut Text, at: usize, z: i32) -> usize
+    requires { ⌜ at ≤ 512 ⌝ }
+    ensures { λ r. ⌜ r ≤ 512 ⌝ }
+{
+    if z < 0 {
+        let minus = put_text(text, at, b"-");
+        put_number(text, minus, words::magnitude(z))
+    } else {
+        put_number(text, at, words::magnitude(z))
+    }
+}
+
+// The first of the values, each behind a space.
+pub fn put_values(text: &mut Text, at: usize, v: [i32; 8], count: usize) -> usize
+    requires { ⌜ (at ≤ 512) × (count ≤ 8) ⌝ }
+    ensures { λ r. ⌜ r ≤ 512 ⌝ }
+{
+    let mut to = at;
+    for j in 0..count {
+        let space = put_text(text, to, b" ");
+        to = put_signed(text, space, v[j]);
+    }
+    to
+}
+
 // Bytes in lower case hexadecimal.
 pub fn put_hex(text: &mut Text, at: usize, s: &[u8]) -> usize
     requires { ⌜ at ≤ 512 ⌝ }

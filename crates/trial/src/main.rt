@@ -2,56 +2,33 @@
 // request is one byte op, two bytes big-endian length, then that many bytes.
 mod answers;
 mod line;
+mod numbers;
+mod string_calls;
+mod word_calls;
 
 use answers::say_bad;
-use answers::say_checked;
 use answers::say_short;
-use answers::say_written;
 use libc::STDIN_FILENO;
 use libc::STDOUT_FILENO;
 use line::Text;
 use line::put_text;
+use numbers::pair;
+use string_calls::string_call;
+use word_calls::read_call;
+use word_calls::write_call;
 ghost use Prim.Native.Nat.{_≤_, _<_};
 ghost use lib.ListN.{length};
 
-// Requests 1 to 3: a string in, and one out into as many bytes as the request names.
-fn string_call(op: u8, s: &[u8], out: &mut [u8], text: &mut Text) -> usize
-    ensures { λ n. ⌜ n ≤ 512 ⌝ }
-{
-    match op {
-        1 => {
-            let w = strings::from_relative(s, out);
-            say_written(text, w, out)
-        }
-        2 => {
-            let w = strings::to_relative(s, out);
-            say_written(text, w, out)
-        }
-        3 => {
-            let c = strings::check(s, out);
-            say_checked(text, c, out)
-        }
-        _ => say_bad(text, op),
-    }
-}
-
-// The line for one whole request. Its payload is the output's length in bytes, then the string.
+// The line for one whole request.
 fn answer(op: u8, payload: &[u8], text: &mut Text) -> usize
     ensures { λ n. ⌜ n ≤ 512 ⌝ }
 {
-    if payload.len() == 0 {
-        return say_bad(text, op);
+    match op {
+        1 | 2 | 3 => string_call(op, payload, text),
+        4 => read_call(payload, text),
+        5 => write_call(payload, text),
+        _ => say_bad(text, op),
     }
-    let mut space = [0u8; 255];
-    let room = wide(payload[0]);
-    string_call(op, &payload[1..], &mut space[0..room], text)
-}
-
-// The bound is what keeps a length that the input names within its buffer.
-fn wide(b: u8) -> usize
-    ensures { λ r. ⌜ r < 256 ⌝ }
-{
-    b as usize
 }
 
 // Ends the line and writes it.
@@ -104,8 +81,7 @@ fn turn(space: &mut [u8; 65536]) -> bool {
         print_short(got);
         return false;
     }
-    let size = wide(head[1]) * 256 + wide(head[2]);
-    finish(head[0], size, space)
+    finish(head[0], pair(head[1], head[2]), space)
 }
 
 // Nothing says that the input ends, so the turns are counted down from a number that no run uses up.

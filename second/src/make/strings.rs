@@ -1,15 +1,12 @@
 //! Requests on strings alone: relative code and the check.
 
-use super::Input;
+use super::{Input, RIGHT_ROOM, WRONG_LENGTHS, WRONG_ROOMS};
 use crate::known;
 use crate::relative;
 use crate::request::{CHECK, FROM_RELATIVE, TO_RELATIVE};
 use crate::string::{NavString, BITS, BYTES, IDLE_BIT, PADDING};
 
 const OPS: [u8; 3] = [FROM_RELATIVE, TO_RELATIVE, CHECK];
-const RIGHT_ROOM: u8 = BYTES as u8;
-const WRONG_ROOMS: [u8; 8] = [0, 1, 10, 12, 22, 127, 128, 255];
-const WRONG_LENGTHS: [usize; 13] = [0, 1, 2, 8, 9, 10, 12, 13, 16, 22, 255, 256, 300];
 
 pub(super) fn add_all(input: &mut Input) {
     input.known_strings();
@@ -66,8 +63,7 @@ impl Input {
     }
 
     fn received_frame(&mut self) {
-        for bytes in known::received_strings() {
-            let string = NavString::from_bytes(bytes).expect("a received string");
+        for string in known::received_frame() {
             self.check_and_round_trip(&string);
         }
     }

@@ -1,0 +1,40 @@
+// Requests 1 to 3: to and from the relative code, and the check.
+use crate::answers::say_bad;
+use crate::answers::say_checked;
+use crate::answers::say_written;
+use crate::line::Text;
+use crate::numbers::wide;
+ghost use Prim.Native.Nat.{_≤_};
+
+// The output's length in bytes, then the string.
+pub fn string_call(op: u8, payload: &[u8], text: &mut Text) -> usize
+    ensures { λ n. ⌜ n ≤ 512 ⌝ }
+{
+    if payload.len() == 0 {
+        return say_bad(text, op);
+    }
+    let mut space = [0u8; 255];
+    let room = wide(payload[0]);
+    string_into(op, &payload[1..], &mut space[0..room], text)
+}
+
+// A string in, and one out into as many bytes as the request names.
+fn string_into(op: u8, s: &[u8], out: &mut [u8], text: &mut Text) -> usize
+    ensures { λ n. ⌜ n ≤ 512 ⌝ }
+{
+    match op {
+        1 => {
+            let w = strings::from_relative(s, out);
+            say_written(text, w, out)
+        }
+        2 => {
+            let w = strings::to_relative(s, out);
+            say_written(text, w, out)
+        }
+        3 => {
+            let c = strings::check(s, out);
+            say_checked(text, c, out)
+        }
+        _ => say_bad(text, op),
+    }
+}

@@ -1,0 +1,11 @@
+pub mod EveryKind
+pub mod Sign
+pub mod WordBits
+pub mod Rows
+pub mod Carrying
+pub mod Trip
+pub mod RecordLists
+pub mod ReadAnswers
+pub mod WriteAnswers
+pub mod RoundTrips
+pub mod Ranges

@@ -1,0 +1,365 @@
+-- The reader and the encoder, over their public relations Reads and Writes. No second answer fits: read-once, write-once. Each number exactly where
+-- it belongs: read-numbers, write-numbers. What was written is read: written-then-read. What was read is written again: read-then-written, with
+-- tidied-is and tidied-only to say which string that is, and comes-back, where it is the same.
+-- Assumes nothing.
+use mathlib.Core.Path.{_≡_, refl, sym, ap, ap₂, _∙_, subst}
+use mathlib.Core.Bool.{Bool, true, false, not, _&&_, _||_, true≢false}
+use mathlib.Core.List.{List, [], _∷_}
+use mathlib.Core.Logic.{⊎-elim}
+use Prim.Native.Nat.{ℕ, suc, _+_, _-_, _*_, _/_, _%_, _^_, _≤_, _<_, suc-le-suc}
+use native.Mathlib.Nat.{mod-lt, zero-lt-suc}
+use native.Mathlib.Omega.{arith}
+use borrow.Author.Tests.{eq-eqb, ne-eqb, eqb-true, leb-true, not-false}
+use lib.Dec.{T, eqb, leb, lit<, lit≤}
+use lib.IntN.{ℤ}
+use lib.ListN.{length, getD}
+use lib.Pow.{shr-shr}
+use Rattle.strings.specs.declared.Verdict.the-variants.{Clean}
+use Rattle.strings.specs.declared.Checked.{Checked}
+use Rattle.strings.specs.declared.Checked.the-variants.{Taken}
+use Rattle.strings.specs.declared.Written.{Written}
+use Rattle.strings.specs.declared.Written.the-variants.{Done}
+use Rattle.strings.specs.Pick.{pick}
+use Rattle.strings.specs.Number.{numberOf, misshapen, bitOf, wordOf, stringBytes}
+use Rattle.strings.specs.Hamming.{ruling, isDamaged, mended, encode}
+use Rattle.strings.specs.Numbers.{firstOf, placeOf, saidBy, Exactly}
+use Rattle.strings.specs.Calls.{writtenPaper, noRoom, isIdle, Checks}
+use Rattle.strings.proofs.Digits.{low-digit, bits-same, three}
+use Rattle.strings.proofs.Value.{Bytes, string-number, string-bytes}
+use Rattle.strings.proofs.Shape.{string-shaped, has-room, shaped}
+use Rattle.strings.proofs.Below.{unfit}
+use Rattle.strings.proofs.Answer.{goes-on, takes, same-answer, refusal-same, written-same, exactly, taken-made}
+use Rattle.strings.proofs.Encode.{encode-encoded, encode-stays, encode-lt, encoded-once}
+use Rattle.strings.proofs.CheckRule.{Whole, encoded-clean}
+use Rattle.strings.proofs.Flips.{encoded-ruling}
+use Rattle.strings.proofs.Judge.{mended-by}
+use Rattle.words.specs.declared.table.Word.{Word}
+use Rattle.words.specs.declared.kinds.Kind.{Kind}
+use Rattle.words.specs.declared.kinds.Kind.the-variants.{One, Two, Three, Four, Five, Even, Odd, Fourteen}
+use Rattle.words.specs.declared.records.Record.{Record}
+use Rattle.words.specs.declared.records.Record.the-variants.{First, Second, Third, Fourth, Fifth, Sixth, Seventh, Eighth}
+use Rattle.words.specs.declared.reading.Reading.{Reading}
+use Rattle.words.specs.declared.reading.Reading.the-variants.{Read, Refused}
+use Rattle.words.specs.Layout.{layout, none, kindNumber, ofKind}
+use Rattle.words.specs.Reserved.{inWords}
+use Rattle.words.specs.Values.{valuesOf, firstBad, dataOf}
+use Rattle.words.specs.Records.{kindOf, listOf, recordOf}
+use Rattle.words.specs.Calls.{numberIn, readTests, readingPaper, readingWords, Reads, writeTests, stringOf, Writes}
+use Rattle.words.specs.Tidied.{wordAt, tidyWords, tidied, Tidy}
+use Rattle.words.proofs.RecordLists.{list-long, record-list, kind-same, of-kind}
+use Rattle.words.proofs.Rows.{layout-long, values-long}
+use Rattle.words.proofs.Trip.{layout-laid, and-both, kind-data-lt, kind-values, kind-values-same, data-values, data-lt, read-fit, bit-same, word-same, word-data, code-read, gap-data, sound-at}
+
+-- ---- a reading is known by its numbers and its words
+pub reading-same : (q p : Reading) → readingPaper q ≡ readingPaper p → readingWords q ≡ readingWords p → q ≡ p
+unfolding readingWords
+reading-same (Read m r) (Read n s) e f =
+    let g : kindOf r ≡ kindOf s = kind-same (kindOf r) (kindOf s) (ap (λ (l : List ℕ). getD l 2 0) e) in
+    ap₂ Read (ap (λ (l : List ℕ). getD l 1 0) e) (sym (record-list r) ∙ ap₂ recordOf g f ∙ record-list s)
+reading-same (Read m r) (Refused p) e f = absurd (omega (arith, list-long r, ap length f))
+reading-same (Refused q) (Read n s) e f = absurd (omega (arith, list-long s, ap length f))
+reading-same (Refused q) (Refused p) e f = ap Refused (refusal-same q p e)
+
+-- ---- NO SECOND ANSWER FITS, AND EACH NUMBER EXACTLY: the reader
+module _ (s : List ℕ) (k : Kind) where
+  pub read-once : (q p : Reading) → Reads s k q → Reads s k p → q ≡ p
+  unfolding Reads
+  read-once q p a b = reading-same q p (a .answer ∙ sym (b .answer)) (a .words ∙ sym (b .words))
+
+  pub read-numbers : (q : Reading) → Reads s k q → Exactly (readTests s k) (readingPaper q)
+  unfolding Reads
+  read-numbers q a = exactly {made = []} {out = []} tt (record { answer = a .answer; output = refl })
+
+-- the encoder
+module _ (m : ℕ) (r : Record) (out : List ℕ) where
+  pub write-once : (w v : Written) (out′ out″ : List ℕ) → Writes m r out w out′ → Writes m r out v out″ → (w ≡ v) × (out′ ≡ out″)
+  unfolding Writes
+  write-once w v out′ out″ a b = let e = same-answer a b in (written-same w v (e .0), e .1)
+
+  pub write-numbers : (w : Written) (out′ : List ℕ) → Writes m r out w out′ → Exactly (writeTests m r out) (writtenPaper w)
+  unfolding Writes
+  write-numbers w out′ a = exactly tt a
+
+-- ---- what it takes to be read, test by test, and what is told then
+pub record IsRead (s : List ℕ) (k : Kind) (m : ℕ) (r : Record) : Type 0 where
+  pub shape : misshapen s ≡ false
+  pub sound : isDamaged (ruling (numberOf s)) ≡ false
+  pub idle : isIdle (mended (numberOf s)) ≡ false
+  pub numbered : eqb (numberIn (mended (numberOf s))) 0 ≡ false
+  pub place : ofKind k (numberIn (mended (numberOf s))) ≡ true
+  pub range : firstBad (layout k) (valuesOf (mended (numberOf s)) (layout k)) ≡ 0
+  pub number : m ≡ numberIn (mended (numberOf s))
+  pub kind : kindOf r ≡ k
+  pub words : listOf r ≡ valuesOf (mended (numberOf s)) (layout k)
+
+module _ (s : List ℕ) (k : Kind) (m : ℕ) (r : Record) where
+  none-fits : misshapen s ≡ false → isDamaged (ruling (numberOf s)) ≡ false → isIdle (mended (numberOf s)) ≡ false
+      → eqb (numberIn (mended (numberOf s))) 0 ≡ false → ofKind k (numberIn (mended (numberOf s))) ≡ true
+      → eqb (firstBad (layout k) (valuesOf (mended (numberOf s)) (layout k))) 0 ≡ true → firstOf (readTests s k) ≡ 0
+  none-fits a b c d e f = rw (a, b, c, d, e, f)
+
+  pub reads : IsRead s k m r → Reads s k (Read m r)
+  unfolding Reads readingWords
+  reads i =
+      let n = mended (numberOf s) in
+      let ts = readTests s k in
+      let z = none-fits (i .shape) (i .sound) (i .idle) (i .numbered) (i .place) (eq-eqb _ 0 (i .range)) in
+      record {
+        answer = ap₂ (λ (a b : ℕ). 0 ∷ a ∷ b ∷ []) (i .number) (ap kindNumber (i .kind)) ∙ sym (ap (λ (x : ℕ). saidBy x (placeOf ts) (numberIn n ∷ kindNumber k ∷ [])) z);
+        words = i .words ∙ sym (ap (λ (x : ℕ). pick (eqb x 0) (valuesOf n (layout k)) []) z);
+      }
+
+  pub is-read : Reads s k (Read m r) → IsRead s k m r
+  unfolding Reads readingWords
+  is-read a =
+      let n = mended (numberOf s) in
+      let ts = readTests s k in
+      let clear = read-numbers s k (Read m r) a .taken .0 refl in
+      let shape = unfit (misshapen s) (clear 0 (lit< tt)) in
+      let sound = unfit (isDamaged (ruling (numberOf s))) (clear 1 (lit< tt)) in
+      let idle = unfit (isIdle n) (clear 2 (lit< tt)) in
+      let numbered = unfit (eqb (numberIn n) 0) (clear 3 (lit< tt)) in
+      let place = not-false (ofKind k (numberIn n)) (unfit (not (ofKind k (numberIn n))) (clear 4 (lit< tt))) in
+      let range = not-false _ (unfit (not (eqb (firstBad (layout k) (valuesOf n (layout k))) 0)) (clear 5 (lit< tt))) in
+      let z = none-fits shape sound idle numbered place range in
+      let e = a .answer ∙ ap (λ (x : ℕ). saidBy x (placeOf ts) (numberIn n ∷ kindNumber k ∷ [])) z in
+      record {
+        shape = shape;
+        sound = sound;
+        idle = idle;
+        numbered = numbered;
+        place = place;
+        range = eqb-true _ 0 range;
+        number = ap (λ (l : List ℕ). getD l 1 0) e;
+        kind = kind-same (kindOf r) k (ap (λ (l : List ℕ). getD l 2 0) e);
+        words = a .words ∙ ap (λ (x : ℕ). pick (eqb x 0) (valuesOf n (layout k)) []) z;
+      }
+
+-- ---- and to be written
+pub record IsWritten (m : ℕ) (r : Record) (out out′ : List ℕ) : Type 0 where
+  pub room : length out ≡ 11
+  pub place : ofKind (kindOf r) m ≡ true
+  pub range : firstBad (layout (kindOf r)) (listOf r) ≡ 0
+  pub output : out′ ≡ stringBytes (stringOf m r)
+
+module _ (m : ℕ) (r : Record) (out out′ : List ℕ) where
+  pub writes : IsWritten m r out out′ → Writes m r out Done out′
+  unfolding Writes
+  writes i =
+      goes-on 12 (has-room out (i .room)) (goes-on 11 (ap not (i .place)) (goes-on 10 (ap not (eq-eqb _ 0 (i .range))) (takes refl (i .output))))
+
+  pub is-written : Writes m r out Done out′ → IsWritten m r out out′
+  unfolding Writes
+  is-written a =
+      let clear = write-numbers m r out Done out′ a .taken .0 refl in
+      record {
+        room = eqb-true _ 11 (not-false _ (unfit (noRoom out) (clear 0 (lit< tt))));
+        place = not-false _ (unfit (not (ofKind (kindOf r) m)) (clear 1 (lit< tt)));
+        range = eqb-true _ 0 (not-false _ (unfit (not (eqb (firstBad (layout (kindOf r)) (listOf r)) 0)) (clear 2 (lit< tt))));
+        output = taken-made [] a;
+      }
+
+-- ---- m above 80 bits of data, with the check bits made
+module _ (m d : ℕ) (h : m ≤ 15) (l : d < 2 ^ 80) where
+  abbrev made : ℕ
+  made = encode (m * 2 ^ 80 + d)
+
+  made-lt : made < 2 ^ 85
+  made-lt = encode-lt (m * 2 ^ 80 + d) (omega arith)
+
+  made-idle : bitOf made 85 ≡ 0
+  made-idle = bit-same made (m * 2 ^ 80 + d) 85 (encode-stays (m * 2 ^ 80 + d)) (lit≤ tt) ∙ omega arith
+
+  made-number : numberIn made ≡ m
+  unfolding wordOf
+  made-number = word-same made (m * 2 ^ 80 + d) 84 81 (encode-stays (m * 2 ^ 80 + d)) (lit≤ tt) ∙ omega arith
+
+-- ---- WRITTEN, THEN READ: what was written is read, with its m and every word, whatever the kind. That it was written says that `out` had room, that
+-- m is of the kind and that every word is in range
+module _ (m : ℕ) (r : Record) (out out′ : List ℕ) (a : Writes m r out Done out′) where
+  abbrev words-of : ℕ
+  words-of = dataOf (layout (kindOf r)) (listOf r)
+
+  facts : IsWritten m r out out′
+  facts = is-written m r out out′ a
+
+  m-lt : m ≤ 15
+  m-lt = of-kind (kindOf r) m (facts .place) .1
+
+  words-lt : words-of < 2 ^ 80
+  words-lt = kind-data-lt (kindOf r) (listOf r) (list-long r) (facts .range)
+
+  -- the bytes of an encoded string whose idle bit is 0
+  pub written-whole : Whole out′
+  unfolding stringOf
+  written-whole =
+      record {
+        number = made m words-of m-lt words-lt;
+        small = made-lt m words-of m-lt words-lt;
+        bytes = facts .output;
+        encoded = encode-encoded (m * 2 ^ 80 + words-of);
+        idle = made-idle m words-of m-lt words-lt;
+      }
+
+  -- which the public check takes as clean
+  pub written-clean : (room left : List ℕ) (c : Checked) → length room ≡ 11 → Checks out′ room c left → (c ≡ Taken Clean) × (left ≡ out′)
+  written-clean room left c n b =
+      let w = written-whole in
+      let e = encoded-clean (w .number) (w .small) (w .encoded) room n c left (w .idle) (subst (λ (s : List ℕ). Checks s room c left) (w .bytes) b) in
+      (e .0, e .1 ∙ sym (w .bytes))
+
+  written-read : Reads (stringBytes (made m words-of m-lt words-lt)) (kindOf r) (Read m r)
+  written-read =
+      let k = kindOf r in
+      let x = m * 2 ^ 80 + words-of in
+      let n = made m words-of m-lt words-lt in
+      let b : numberOf (stringBytes n) ≡ n = string-number n (made-lt m words-of m-lt words-lt) in
+      let e : mended (numberOf (stringBytes n)) ≡ n = ap mended b ∙ mended-by n Clean (encoded-ruling n (encode-encoded x)) in
+      let i = made-number m words-of m-lt words-lt in
+      let v : valuesOf n (layout k) ≡ listOf r = kind-values-same k n x (encode-stays x) ∙ kind-values k (listOf r) (list-long r) (facts .range) m in
+      reads (stringBytes n) k m r
+      (record {
+        shape = string-shaped n (made-lt m words-of m-lt words-lt);
+        sound = rw (b, encoded-ruling n (encode-encoded x));
+        idle = rw (e, made-idle m words-of m-lt words-lt);
+        numbered = rw (e, i) (ne-eqb m 0 (omega (arith, of-kind k m (facts .place) .0)));
+        place = rw (e, i) (facts .place);
+        range = rw (e, v) (facts .range);
+        number = rw (e, i);
+        kind = refl;
+        words = rw (e, v);
+      })
+
+  pub written-then-read : (q : Reading) → Reads out′ (kindOf r) q → q ≡ Read m r
+  unfolding stringOf
+  written-then-read q b = read-once out′ (kindOf r) q (Read m r) b (subst (λ (s : List ℕ). Reads s (kindOf r) (Read m r)) (sym (facts .output)) written-read)
+
+-- ---- READ, THEN WRITTEN: the string as the check leaves it, "but that reserved bits and minus zeros become plain zeros and the check bits
+-- follow" (Tidied.antt; what `tidied` is, bit for bit, is `tidied-is` below)
+pub read-then-written : (s : List ℕ) (k : Kind) (m : ℕ) (r : Record) (out : List ℕ) (w : Written) (out′ : List ℕ)
+    → Reads s k (Read m r) → Writes m r out w out′ → length out ≡ 11 → (w ≡ Done) × (out′ ≡ stringBytes (tidied k (mended (numberOf s))))
+unfolding stringOf tidied
+read-then-written s k m r out w out′ a b h =
+    let i = is-read s k m r a in
+    let n = mended (numberOf s) in
+    let x : m * 2 ^ 80 + dataOf (layout (kindOf r)) (listOf r) ≡ numberIn n * 2 ^ 80 + tidyWords n (layout k) =
+    ap₂ (λ (a b : ℕ). a * 2 ^ 80 + b) (i .number) (ap₂ (λ (k : Kind) (zs : List ℤ). dataOf (layout k) zs) (i .kind) (i .words) ∙ data-values n (layout k) 80 (layout-laid k)) in
+    let e = write-once m r out w Done out′ _ b
+    (writes m r out (stringBytes (stringOf m r))
+    (record {
+      room = h;
+      place = ap₂ ofKind (i .kind) (i .number) ∙ i .place;
+      range = ap₂ (λ (k : Kind) (zs : List ℤ). firstBad (layout k) zs) (i .kind) (i .words) ∙ i .range;
+      output = refl;
+    })) in
+    (e .0, e .1 ∙ ap (λ (y : ℕ). stringBytes (encode y)) x)
+
+-- what was read, written again and read again is the same
+pub read-again : (s : List ℕ) (k : Kind) (m : ℕ) (r : Record) (out : List ℕ) (w : Written) (out′ : List ℕ) (q : Reading)
+    → Reads s k (Read m r) → Writes m r out w out′ → length out ≡ 11 → Reads out′ k q → q ≡ Read m r
+read-again s k m r out w out′ q a b h c =
+    let e = read-then-written s k m r out w out′ a b h in
+    written-then-read m r out out′ (subst (λ (w : Written). Writes m r out w out′) (e .0) b) q (subst (λ (k : Kind). Reads out′ k q) (sym (is-read s k m r a .kind)) c)
+
+-- ---- WHAT IS TIDIED, bit for bit
+number-lt : (n : ℕ) → numberIn n ≤ 15
+unfolding wordOf
+number-lt n = omega (arith, mod-lt (n / 2 ^ 80) (lit< {m = 0} {n = 2 ^ 4} tt))
+
+pub tidied-is : (k : Kind) (n : ℕ) → Tidy k n (tidied k n)
+unfolding tidied
+tidied-is k n =
+    let ws = layout k in
+    let m = numberIn n in
+    let h = number-lt n in
+    let d = dataOf ws (valuesOf n ws) in
+    let f = read-fit n ws 80 (layout-laid k) in
+    let l = data-lt ws (valuesOf n ws) 80 (layout-laid k) f in
+    let x = m * 2 ^ 80 + d in
+    rw (← data-values n ws 80 (layout-laid k))
+    (record {
+      small = made-lt m d h l;
+      encoded = encode-encoded x;
+      idle = made-idle m d h l;
+      number = made-number m d h l;
+      words = λ j b. let c : j < length ws = omega (arith, layout-long k) in
+          let w = wordAt k j in
+          word-same (encode x) x (w .top) (w .low) (encode-stays x) (sound-at 80 ws (layout-laid k) j .above)
+          ∙ word-data ws (valuesOf n ws) m 80 (layout-laid k) (values-long n ws) f j c ∙ code-read n ws 80 (layout-laid k) j c;
+      reserved = λ i b c g. bit-same (encode x) x i (encode-stays x) b ∙ gap-data ws (valuesOf n ws) m 80 (layout-laid k) f i (omega arith) c g;
+    })
+
+-- ---- and nothing else is: what `Tidy` says leaves no bit open
+bit-in-word : (n i top low : ℕ) → 1 ≤ low → low ≤ i → i ≤ top → bitOf n i ≡ wordOf n top low / 2 ^ (i - low) % 2
+unfolding wordOf
+bit-in-word n i top low h l u =
+    let x = n / 2 ^ (low - 1) in
+    sym (low-digit x (top + 1 - low) (i - low) (omega arith) ∙ ap (λ (y : ℕ). y % 2) (shr-shr n (low - 1) (i - low)) ∙ ap (λ (j : ℕ). n / 2 ^ j % 2) (omega arith))
+
+record InWord (ws : List Word) (i : ℕ) : Type 0 where
+  index : ℕ
+  there : index < length ws
+  from : getD ws index none .low ≤ i
+  upto : i ≤ getD ws index none .top
+
+in-word-by : (w : Word) (ws : List Word) (i : ℕ) (b : Bool) → (leb (w .low) i && leb i (w .top)) ≡ b → (inWords ws i ≡ true → InWord ws i)
+    → (b || inWords ws i) ≡ true → InWord (w ∷ ws) i
+in-word-by w ws i true q ih e =
+    let p = and-both (leb (w .low) i) (leb i (w .top)) q in
+    record { index = 0; there = zero-lt-suc (length ws); from = leb-true (w .low) i (p .0); upto = leb-true i (w .top) (p .1) }
+in-word-by w ws i false q ih e = let o = ih e in record { index = suc (o .index); there = suc-le-suc (o .there); from = o .from; upto = o .upto }
+
+in-word : (ws : List Word) (i : ℕ) → inWords ws i ≡ true → InWord ws i
+in-word [] i e = absurd (true≢false (sym e))
+in-word (w ∷ ws) i e = in-word-by w ws i (leb (w .low) i && leb i (w .top)) refl (in-word ws i) e
+
+module _ (k : Kind) (n t u : ℕ) (a : Tidy k n t) (b : Tidy k n u) where
+  data-bit : (i : ℕ) → 9 ≤ i → i ≤ 80 → (c : Bool) → inWords (layout k) i ≡ c → bitOf t i ≡ bitOf u i
+  data-bit i l h true e =
+      let o = in-word (layout k) i e in
+      let j = o .index in
+      let w = wordAt k j in
+      let first : 1 ≤ w .low = omega (arith, sound-at 80 (layout k) (layout-laid k) j .above) in
+      let there : j < 8 = omega (arith, layout-long k, o .there) in
+      bit-in-word t i (w .top) (w .low) first (o .from) (o .upto) ∙ ap (λ (x : ℕ). x / 2 ^ (i - w .low) % 2) (a .words j there ∙ sym (b .words j there))
+      ∙ sym (bit-in-word u i (w .top) (w .low) first (o .from) (o .upto))
+  data-bit i l h false e = a .reserved i l h e ∙ sym (b .reserved i l h e)
+
+  high-bit : (i : ℕ) → 81 ≤ i → i ≤ 84 → bitOf t i ≡ bitOf u i
+  high-bit i l h =
+      bit-in-word t i 84 81 (lit≤ tt) l h ∙ ap (λ (x : ℕ). x / 2 ^ (i - 81) % 2) (a .number ∙ sym (b .number)) ∙ sym (bit-in-word u i 84 81 (lit≤ tt) l h)
+
+  each-bit : (i : ℕ) → 9 ≤ i → i ≤ 85 → bitOf t i ≡ bitOf u i
+  each-bit i l h =
+      ⊎-elim (λ (m : i < 81). data-bit i l (omega arith) (inWords (layout k) i) refl)
+      (⊎-elim (λ (e : i ≡ 81). high-bit i (omega arith) (omega arith))
+      (λ (m : 81 < i). ⊎-elim (λ (m′ : i < 85). high-bit i (omega arith) (omega arith))
+      (⊎-elim (λ (e : i ≡ 85). ap (bitOf t) e ∙ a .idle ∙ sym (ap (bitOf u) e ∙ b .idle)) (λ (m′ : 85 < i). absurd (omega arith))) (three i 85)))
+      (three i 81)
+
+  shifted-bit : (x i : ℕ) → 1 ≤ i → bitOf (x / 2 ^ 8) i ≡ bitOf x (i + 8)
+  shifted-bit x i l = ap (λ (y : ℕ). y % 2) (shr-shr x 8 (i - 1)) ∙ ap (λ (j : ℕ). x / 2 ^ j % 2) (omega arith)
+
+  high-same : u / 2 ^ 8 ≡ t / 2 ^ 8
+  high-same =
+      bits-same 77 (u / 2 ^ 8) (t / 2 ^ 8) (omega (arith, b .small)) (omega (arith, a .small))
+      (λ i l h. shifted-bit u i l ∙ sym (each-bit (i + 8) (omega arith) (omega arith)) ∙ sym (shifted-bit t i l))
+
+  pub tidy-once : t ≡ u
+  tidy-once = encoded-once t t (a .small) (a .small) (a .encoded) refl ∙ sym (encoded-once t u (a .small) (b .small) (b .encoded) high-same)
+
+pub tidied-only : (k : Kind) (n t : ℕ) → Tidy k n t → t ≡ tidied k n
+tidied-only k n t a = tidy-once k n t (tidied k n) a (tidied-is k n)
+
+-- so an encoded string with its idle bit, its reserved bits and no minus zero as the encoder writes them comes back byte for byte
+pub comes-back : (s : List ℕ) (k : Kind) (m : ℕ) (r : Record) (out : List ℕ) (w : Written) (out′ : List ℕ) → Bytes s → Tidy k (numberOf s) (numberOf s)
+    → Reads s k (Read m r) → Writes m r out w out′ → length out ≡ 11 → (w ≡ Done) × (out′ ≡ s)
+comes-back s k m r out w out′ b t a c h =
+    let n = numberOf s in
+    let e = read-then-written s k m r out w out′ a c h in
+    let p = shaped s (is-read s k m r a .shape) in (
+      e .0,
+      e .1
+          ∙ ap (λ (x : ℕ). stringBytes (tidied k x)) (mended-by n Clean (encoded-ruling n (t .encoded)))
+          ∙ ap stringBytes (sym (tidied-only k n n t)) ∙ string-bytes s b (p .0) (p .1),
+    )

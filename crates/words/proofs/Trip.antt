@@ -1,0 +1,497 @@
+-- What is written in the words of a kind is read back, and what is read is written again, word for word: laws of one word at any place and of
+-- any width, then of a list of words that lie below one another, then of the eight kinds.
+-- Assumes nothing.
+use mathlib.Core.Path.{_≡_, refl, sym, ap, ap₂, _∙_, subst}
+use mathlib.Core.Bool.{Bool, true, false, _&&_, _||_, true≢false}
+use mathlib.Core.List.{List, [], _∷_}
+use mathlib.Core.Logic.{⊎-elim}
+use Prim.Native.Nat.{ℕ, zero, suc, _+_, _-_, _*_, _/_, _%_, _^_, _≤_, _<_, suc-le-suc}
+use native.Mathlib.Omega.{arith}
+use native.Mathlib.Nat.{mul-assoc, add-mul, lt-of-lt-of-le, lt-of-le-of-lt, le-of-suc-le-suc, not-suc-le-zero, le-refl, mod-lt, ne-of-lt, pow-suc, zero-lt-suc}
+use borrow.Author.Tests.{lt-ltb, le-ltb, le-leb, lt-leb, leb-true, leb-false, ltb-true, ltb-false, eqb-true, eq-eqb, ne-eqb}
+use lib.Arith.{digits-lt}
+use lib.Dec.{T, leb, ltb, eqb, leb→le, ltb→lt, eqb→eq}
+use lib.IntN.{ℤ, pos, negsuc, negℤ, natAbs}
+use lib.ListN.{length, getD}
+use lib.Pow as Pow
+use lib.Pow.{pow-add, pow-mono, pow-pos, high, shr-shr}
+use lib.Seq.{ext-getD}
+use lib.Signed.{leZ, nonNeg, pos-natAbs}
+use Rattle.strings.specs.Pick.{pick}
+use Rattle.strings.specs.Number.{wordOf, bitOf}
+use Rattle.strings.proofs.Below.{and-left, and-right, below, below-at}
+use Rattle.strings.proofs.Digits.{three}
+use Rattle.words.specs.declared.table.Word.{Word}
+use Rattle.words.specs.declared.kinds.Kind.{Kind}
+use Rattle.words.specs.Layout.{layout, none}
+use Rattle.words.specs.Signed.{signedAt, codeAt}
+use Rattle.words.specs.Values.{width, carrierOf, carrierCode, valueIn, codeIn, leastOf, mostOf, inRange, valuesOf, firstBad, dataOf}
+use Rattle.words.specs.Reserved.{inWords}
+use Rattle.words.specs.Tidied.{wordAt, bitsIn, tidyWord, tidyWords}
+use Rattle.words.proofs.EveryKind.{kinds, every, every-kind}
+use Rattle.words.proofs.WordBits.{word-lt}
+use Rattle.words.proofs.Rows.{layout-long, values-long, values-at}
+
+-- ---- sign and magnitude, at any weight of the sign
+pub signed-back : (half : ℕ) (z : ℤ) → natAbs z < half → signedAt half (codeAt half z) ≡ z
+signed-back half (pos n) h = rw (lt-ltb n half h)
+signed-back half (negsuc n) h =
+    let e : half + suc n - half ≡ suc n = omega arith in
+    let l : half ≤ half + suc n = omega arith in
+    rw (le-ltb (half + suc n) half l, e)
+
+-- all bits come back but minus zero, which comes back as zero
+minus-code : (half raw d : ℕ) → half ≤ raw → d ≡ raw - half → codeAt half (negℤ (pos d)) ≡ pick (eqb raw half) 0 raw
+minus-code half raw zero l e = let z : raw ≡ half = omega arith in rw (eq-eqb raw half z)
+minus-code half raw (suc d) l e = by (eqb raw half) refl
+  where
+    by : (b : Bool) → eqb raw half ≡ b → half + suc d ≡ pick b 0 raw
+    by true q = absurd (omega (arith, eqb-true raw half q))
+    by false q = omega arith
+
+pub signed-clean : (half raw : ℕ) → codeAt half (signedAt half raw) ≡ pick (eqb raw half) 0 raw
+signed-clean half raw = by (ltb raw half) refl
+  where
+    by : (b : Bool) → ltb raw half ≡ b → codeAt half (pick b (pos raw) (negℤ (pos (raw - half)))) ≡ pick (eqb raw half) 0 raw
+    by true q = let l = ltb-true raw half q in rw (ne-eqb raw half (ne-of-lt l))
+    by false q = minus-code half raw (raw - half) (ltb-false raw half q) refl
+
+-- ---- H, of five bits
+carrier-back : (z : ℤ) → leZ (negsuc 6) z ≡ true → leZ z (pos 13) ≡ true → (carrierOf (carrierCode z) ≡ z) × (carrierCode z < 32)
+carrier-back (pos n) l u = let h = leb-true n 13 u in (rw (lt-leb 25 n (omega arith)), omega arith)
+carrier-back (negsuc n) l u =
+    let h = leb-true n 6 l in
+    let d : 32 - (31 - n) ≡ suc n = omega arith in
+    (rw (le-leb 25 (31 - n) (omega arith), d), omega arith)
+
+carrier-clean : (raw : ℕ) → raw < 32 → carrierCode (carrierOf raw) ≡ raw
+carrier-clean raw h = by (leb 25 raw) refl
+  where
+    minus : (d : ℕ) → d ≡ 32 - raw → 25 ≤ raw → carrierCode (negℤ (pos d)) ≡ raw
+    minus zero e l = absurd (omega arith)
+    minus (suc d) e l = omega arith
+
+    by : (b : Bool) → leb 25 raw ≡ b → carrierCode (pick b (negℤ (pos (32 - raw))) (pos raw)) ≡ raw
+    by true q = minus (32 - raw) refl (leb-true 25 raw q)
+    by false q = refl
+
+-- ---- the laws of one word, by a test that is computed for each word of the table
+pub and-both : (a b : Bool) → (a && b) ≡ true → (a ≡ true) × (b ≡ true)
+and-both true b e = (refl, e)
+and-both false b e = absurd (true≢false (sym e))
+
+pub is-true : (b : Bool) → T b → b ≡ true
+is-true true t = refl
+is-true false t = absurd t
+
+-- a value between two bounds, by its distance from 0
+upper : (n : ℕ) (b : ℤ) → leZ (pos n) b ≡ true → n ≤ natAbs b
+upper n (pos m) e = leb-true n m e
+upper n (negsuc m) e = absurd (true≢false (sym e))
+
+lower : (n : ℕ) (a : ℤ) → leZ a (negsuc n) ≡ true → (suc n ≤ natAbs a) × (nonNeg a ≡ false)
+lower n (pos m) e = absurd (true≢false (sym e))
+lower n (negsuc m) e = (omega (arith, leb-true n m e), refl)
+
+near : (h : ℕ) (a z b : ℤ) → natAbs a < h → natAbs b < h → leZ a z ≡ true → leZ z b ≡ true → natAbs z < h
+near h a (pos n) b la lb p q = omega (arith, upper n b q)
+near h a (negsuc n) b la lb p q = omega (arith, lower n a p .0)
+
+unsigned : (a z : ℤ) → T (nonNeg a) → leZ a z ≡ true → T (nonNeg z)
+unsigned a (pos n) t p = tt
+unsigned a (negsuc n) t p = subst T (lower n a p .1) t
+
+-- the weight of a word's top bit
+abbrev half : Word → ℕ
+half w = 2 ^ (w .top - w .low)
+
+-- a signed word, H, and any other
+abbrev signedTest : Word → Bool
+signedTest w = leb (w .low) (w .top) && (ltb (natAbs (leastOf w)) (half w) && ltb (natAbs (mostOf w)) (half w))
+
+abbrev carrierTest : Word → Bool
+carrierTest w = eqb (2 ^ width w) 32 && (leZ (negsuc 6) (leastOf w) && leZ (mostOf w) (pos 13))
+
+abbrev plainTest : Word → Bool
+plainTest w = nonNeg (leastOf w) && ltb (natAbs (mostOf w)) (2 ^ width w)
+
+abbrev soundTest : Word → Bool
+soundTest w =
+    leb 9 (w .low) && (leb (w .low) (w .top + 1) && (ltb 0 (w .top)
+    && pick (eqb (w .form) 1) (signedTest w) (pick (eqb (w .form) 6) (carrierTest w) (plainTest w))))
+
+pub record Sound (w : Word) : Type 0 where
+  pub some : 0 < w .top
+  pub above : 9 ≤ w .low
+  pub order : w .low ≤ w .top + 1
+  -- a value in range has bits that the word holds, and they say the value
+  pub fits : (z : ℤ) → inRange w z ≡ true → codeIn w z < 2 ^ width w
+  pub back : (z : ℤ) → inRange w z ≡ true → valueIn w (codeIn w z) ≡ z
+  -- the value that bits say has these bits, but for minus zero
+  pub clean : (raw : ℕ) → raw < 2 ^ width w → codeIn w (valueIn w raw) ≡ tidyWord w raw
+
+leZ-trans : (a b c : ℤ) → T (leZ a b) → leZ b c ≡ true → leZ a c ≡ true
+leZ-trans (pos a) (pos b) (pos c) p q = le-leb a c (omega (arith, leb→le a b p, leb-true b c q))
+leZ-trans (pos a) (pos b) (negsuc c) p q = absurd (true≢false (sym q))
+leZ-trans (pos a) (negsuc b) c p q = absurd p
+leZ-trans (negsuc a) b (pos c) p q = refl
+leZ-trans (negsuc a) (pos b) (negsuc c) p q = absurd (true≢false (sym q))
+leZ-trans (negsuc a) (negsuc b) (negsuc c) p q = le-leb c a (omega (arith, leb→le b a p, leb-true c b q))
+
+trans-leZ : (a b c : ℤ) → leZ a b ≡ true → T (leZ b c) → leZ a c ≡ true
+trans-leZ a b c p q = leZ-trans a b c (subst T (sym p) tt) (is-true (leZ b c) q)
+
+module _ (w : Word) where
+  between : (z : ℤ) → inRange w z ≡ true → (leZ (leastOf w) z ≡ true) × (leZ z (mostOf w) ≡ true)
+  between z e = and-both (leZ (leastOf w) z) (leZ z (mostOf w)) (and-both (leZ (leastOf w) z && leZ z (mostOf w)) _ e .0)
+
+  signed-near : T (signedTest w) → (z : ℤ) → inRange w z ≡ true → natAbs z < half w
+  signed-near t z e =
+      let r = and-right (leb (w .low) (w .top)) _ t in
+      let b = between z e in
+      near (half w) (leastOf w) z (mostOf w) (ltb→lt _ _ (and-left (ltb (natAbs (leastOf w)) (half w)) _ r)) (ltb→lt _ _ (and-right (ltb (natAbs (leastOf w)) (half w)) _ r))
+      (b .0) (b .1)
+
+  code-lt : (z : ℤ) → natAbs z < half w → codeAt (half w) z < half w + half w
+  code-lt (pos n) h = omega arith
+  code-lt (negsuc n) h = omega arith
+
+  signed-wide : T (signedTest w) → half w + half w ≡ 2 ^ width w
+  signed-wide t =
+      let l : w .low ≤ w .top = leb→le _ _ (and-left (leb (w .low) (w .top)) _ t) in
+      let e : width w ≡ suc (w .top - w .low) = omega arith in
+      sym (ap (λ (x : ℕ). 2 ^ x) e ∙ omega arith)
+
+  carrier-wide : T (carrierTest w) → 2 ^ width w ≡ 32
+  carrier-wide t = eqb→eq (2 ^ width w) 32 (and-left (eqb (2 ^ width w) 32) _ t)
+
+  carrier-both : T (carrierTest w) → (z : ℤ) → inRange w z ≡ true → (carrierOf (carrierCode z) ≡ z) × (carrierCode z < 32)
+  carrier-both t z e =
+      let r = and-right (eqb (2 ^ width w) 32) _ t in
+      let b = between z e in
+      carrier-back z (leZ-trans (negsuc 6) (leastOf w) z (and-left (leZ (negsuc 6) (leastOf w)) _ r) (b .0))
+      (trans-leZ z (mostOf w) (pos 13) (b .1) (and-right (leZ (negsuc 6) (leastOf w)) _ r))
+
+  plain-pos : T (plainTest w) → (z : ℤ) → inRange w z ≡ true → pos (natAbs z) ≡ z
+  plain-pos t z e = pos-natAbs z (unsigned (leastOf w) z (and-left (nonNeg (leastOf w)) _ t) (between z e .0))
+
+  plain-lt : T (plainTest w) → (z : ℤ) → inRange w z ≡ true → natAbs z < 2 ^ width w
+  plain-lt t z e =
+      lt-of-le-of-lt (upper (natAbs z) (mostOf w) (ap (λ (y : ℤ). leZ y (mostOf w)) (plain-pos t z e) ∙ between z e .1))
+      (ltb→lt _ _ (and-right (nonNeg (leastOf w)) _ t))
+
+  -- by the two tests of the form
+  sound-by : (a b : Bool) → eqb (w .form) 1 ≡ a → eqb (w .form) 6 ≡ b → 0 < w .top → 9 ≤ w .low → w .low ≤ w .top + 1
+      → T (pick a (signedTest w) (pick b (carrierTest w) (plainTest w))) → Sound w
+  sound-by true b p q s a o t =
+      record {
+        some = s;
+        above = a;
+        order = o;
+        fits = λ z e. rw p (rw (← signed-wide t) (code-lt z (signed-near t z e)));
+        back = λ z e. rw p (signed-back (half w) z (signed-near t z e));
+        clean = λ raw h. rw p (signed-clean (half w) raw);
+      }
+  sound-by false true p q s a o t =
+      record {
+        some = s;
+        above = a;
+        order = o;
+        fits = λ z e. rw (p, q) (rw (carrier-wide t) (carrier-both t z e .1));
+        back = λ z e. rw (p, q) (carrier-both t z e .0);
+        clean = λ raw h. rw (p, q) (carrier-clean raw (rw (carrier-wide t) at h));
+      }
+  sound-by false false p q s a o t =
+      record {
+        some = s;
+        above = a;
+        order = o;
+        fits = λ z e. rw (p, q) (plain-lt t z e);
+        back = λ z e. rw (p, q) (plain-pos t z e);
+        clean = λ raw h. rw (p, q);
+      }
+
+  pub sound-of : T (soundTest w) → Sound w
+  sound-of t =
+      let a = leb 9 (w .low) in
+      let b = leb (w .low) (w .top + 1) in
+      let c = ltb 0 (w .top) in
+      let u = and-right a _ t in
+      let v = and-right b _ u in
+      sound-by (eqb (w .form) 1) (eqb (w .form) 6) refl refl (ltb→lt _ _ (and-left c _ v)) (leb→le _ _ (and-left a _ t)) (leb→le _ _ (and-left b _ u))
+      (and-right c _ v)
+
+-- ---- one word in a number, at any place and of any width
+-- what stands above the word and the word itself are one number above what lies below
+nest : (h c r top low : ℕ) → 1 ≤ low → low ≤ top + 1 → h * 2 ^ top + (c * 2 ^ (low - 1) + r) ≡ (h * 2 ^ (top + 1 - low) + c) * 2 ^ (low - 1) + r
+nest h c r top low l₁ l₂ =
+    let w : ℕ = top + 1 - low in
+    let k : ℕ = low - 1 in
+    let p : 2 ^ top ≡ 2 ^ w * 2 ^ k = ap (λ (x : ℕ). 2 ^ x) (omega arith) ∙ pow-add 2 w k in
+    let q : h * 2 ^ top ≡ h * 2 ^ w * 2 ^ k = ap (λ (x : ℕ). h * x) p ∙ sym (mul-assoc h (2 ^ w) (2 ^ k)) in
+    let s : (h * 2 ^ w + c) * 2 ^ k ≡ h * 2 ^ w * 2 ^ k + c * 2 ^ k = add-mul (h * 2 ^ w) c (2 ^ k) in
+    omega arith
+
+-- a number with h above the word's top bit, c in the word and r below it has c there
+pub read-word : (h c r top low : ℕ) → 1 ≤ low → low ≤ top + 1 → c < 2 ^ (top + 1 - low) → r < 2 ^ (low - 1)
+    → wordOf (h * 2 ^ top + (c * 2 ^ (low - 1) + r)) top low ≡ c
+unfolding wordOf
+read-word h c r top low l₁ l₂ lc lr =
+    let w : ℕ = top + 1 - low in
+    let k : ℕ = low - 1 in
+    rw (nest h c r top low l₁ l₂, high (h * 2 ^ w + c) k lr, Pow.low h w lc)
+
+-- what stands above bit t stands above any lower bit u
+lowered : (h t u : ℕ) → u ≤ t → h * 2 ^ t ≡ h * 2 ^ (t - u) * 2 ^ u
+lowered h t u l = ap (λ (x : ℕ). h * x) (ap (λ (x : ℕ). 2 ^ x) (omega arith) ∙ pow-add 2 (t - u) u) ∙ sym (mul-assoc h (2 ^ (t - u)) (2 ^ u))
+
+-- a bit between what stands above bit t and what lies below it is 0
+clear-bit : (h t d i : ℕ) → 1 ≤ i → i ≤ t → d < 2 ^ (i - 1) → bitOf (h * 2 ^ t + d) i ≡ 0
+clear-bit h t d i l u b =
+    let e : t - (i - 1) ≡ suc (t - i) = omega arith in
+    let p : h * 2 ^ t ≡ h * 2 ^ (t - (i - 1)) * 2 ^ (i - 1) = lowered h t (i - 1) (omega arith) in
+    let z : h * 2 ^ suc (t - i) % 2 ≡ 0 = ap (λ (x : ℕ). h * x % 2) (pow-suc 2 (t - i)) ∙ omega arith in
+    ap (λ (x : ℕ). (x + d) / 2 ^ (i - 1) % 2) p ∙ ap (λ (x : ℕ). x % 2) (high (h * 2 ^ (t - (i - 1))) (i - 1) b) ∙ ap (λ (x : ℕ). h * 2 ^ x % 2) e ∙ z
+
+-- ---- two numbers that differ in the check bits alone have the same words
+shift-same : (a b k : ℕ) → a / 2 ^ 8 ≡ b / 2 ^ 8 → 8 ≤ k → a / 2 ^ k ≡ b / 2 ^ k
+shift-same a b k e l =
+    let s : (x : ℕ) → x / 2 ^ k ≡ x / 2 ^ 8 / 2 ^ (k - 8) = (λ x. ap (λ (j : ℕ). x / 2 ^ j) (omega arith) ∙ sym (shr-shr x 8 (k - 8))) in
+    s a ∙ ap (λ (x : ℕ). x / 2 ^ (k - 8)) e ∙ sym (s b)
+
+pub word-same : (a b top low : ℕ) → a / 2 ^ 8 ≡ b / 2 ^ 8 → 9 ≤ low → wordOf a top low ≡ wordOf b top low
+unfolding wordOf
+word-same a b top low e l = ap (λ (x : ℕ). x % 2 ^ (top + 1 - low)) (shift-same a b (low - 1) e (omega arith))
+
+pub bit-same : (a b i : ℕ) → a / 2 ^ 8 ≡ b / 2 ^ 8 → 9 ≤ i → bitOf a i ≡ bitOf b i
+bit-same a b i e l = ap (λ (x : ℕ). x % 2) (shift-same a b (i - 1) e (omega arith))
+
+-- ---- a list of words: each below the one before, all in bit t and below, and each sound
+abbrev pub laid : ℕ → List Word → Bool
+laid t [] = true
+laid t (w ∷ ws) = leb (w .top) t && (soundTest w && laid (w .low - 1) ws)
+
+record Laid (t : ℕ) (w : Word) (ws : List Word) : Type 0 where
+  under : w .top ≤ t
+  sound : Sound w
+  rest : T (laid (w .low - 1) ws)
+
+laid-of : (t : ℕ) (w : Word) (ws : List Word) → T (laid t (w ∷ ws)) → Laid t w ws
+laid-of t w ws d =
+    let r = and-right (leb (w .top) t) _ d in
+    record {
+      under = leb→le _ _ (and-left (leb (w .top) t) _ d);
+      sound = sound-of w (and-left (soundTest w) _ r);
+      rest = and-right (soundTest w) _ r;
+    }
+
+-- a list that lies in its first word's top bit and below
+top-laid : (t : ℕ) (w : Word) (ws : List Word) → T (laid t (w ∷ ws)) → T (laid (w .top) (w ∷ ws))
+top-laid t w ws d = subst (λ (b : Bool). T (b && (soundTest w && laid (w .low - 1) ws))) (sym (le-leb (w .top) (w .top) (le-refl (w .top)))) (and-right (leb (w .top) t) _ d)
+
+-- the filler is sound as well, so this holds past the end too
+pub sound-at : (t : ℕ) (ws : List Word) → T (laid t ws) → (j : ℕ) → Sound (getD ws j none)
+sound-at t [] d j = sound-of none tt
+sound-at t (w ∷ ws) d zero = laid-of t w ws d .sound
+sound-at t (w ∷ ws) d (suc j) = sound-at (w .low - 1) ws (laid-of t w ws d .rest) j
+
+-- every value has bits that its word holds
+abbrev pub Fit : List Word → List ℤ → Type 0
+Fit ws zs = (j : ℕ) → j < length ws → codeIn (getD ws j none) (getD zs j (pos 0)) < 2 ^ width (getD ws j none)
+
+fit-rest : (w : Word) (ws : List Word) (z : ℤ) (zs : List ℤ) → Fit (w ∷ ws) (z ∷ zs) → Fit ws zs
+fit-rest w ws z zs f j l = f (suc j) (suc-le-suc l)
+
+-- the words fill no bit above t
+pub data-lt : (ws : List Word) (zs : List ℤ) (t : ℕ) → T (laid t ws) → Fit ws zs → dataOf ws zs < 2 ^ t
+unfolding dataOf
+data-lt [] zs t d f = pow-pos t
+data-lt (w ∷ ws) [] t d f = pow-pos t
+data-lt (w ∷ ws) (z ∷ zs) t d f =
+    let l = laid-of t w ws d in
+    let o : (width w) + (w .low - 1) ≡ w .top = omega (arith, l .sound .above, l .sound .order) in
+    let p : 2 ^ width w * 2 ^ (w .low - 1) ≡ 2 ^ w .top = sym (pow-add 2 (width w) (w .low - 1)) ∙ ap (λ (x : ℕ). 2 ^ x) o in
+    let r = data-lt ws zs (w .low - 1) (l .rest) (fit-rest w ws z zs f) in
+    lt-of-lt-of-le (rw p at (digits-lt (f 0 (zero-lt-suc (length ws))) r)) (pow-mono (l .under))
+
+-- and none below bit 9
+pub data-high : (ws : List Word) (zs : List ℤ) (t : ℕ) → T (laid t ws) → dataOf ws zs % 2 ^ 8 ≡ 0
+unfolding dataOf
+data-high [] zs t d = refl
+data-high (w ∷ ws) [] t d = refl
+data-high (w ∷ ws) (z ∷ zs) t d =
+    let l = laid-of t w ws d in
+    let p = lowered (codeIn w z) (w .low - 1) 8 (omega (arith, l .sound .above)) in
+    omega (arith, data-high ws zs (w .low - 1) (l .rest))
+
+-- one word of the list: whatever h stands above bit t, the first word has its bits, and what stands above the next is another h
+record Split (w : Word) (h t c r : ℕ) : Type 0 where
+  front : ℕ
+  next : ℕ
+  at-top : h * 2 ^ t + (c * 2 ^ (w .low - 1) + r) ≡ front * 2 ^ w .top + (c * 2 ^ (w .low - 1) + r)
+  at-low : h * 2 ^ t + (c * 2 ^ (w .low - 1) + r) ≡ next * 2 ^ (w .low - 1) + r
+
+split : (w : Word) (h t c r : ℕ) → w .top ≤ t → Sound w → Split w h t c r
+split w h t c r u s =
+    let g : ℕ = h * 2 ^ (t - w .top) in
+    let e : h * 2 ^ t + (c * 2 ^ (w .low - 1) + r) ≡ g * 2 ^ w .top + (c * 2 ^ (w .low - 1) + r) = ap (λ (x : ℕ). x + (c * 2 ^ (w .low - 1) + r)) (lowered h t (w .top) u) in
+    record {
+      front = g;
+      next = g * 2 ^ width w + c;
+      at-top = e;
+      at-low = e ∙ nest g c r (w .top) (w .low) (omega (arith, s .above)) (s .order);
+    }
+
+-- each word has the bits of its value
+pub word-data : (ws : List Word) (zs : List ℤ) (h t : ℕ) → T (laid t ws) → length zs ≡ length ws → Fit ws zs → (j : ℕ) → j < length ws
+    → bitsIn (h * 2 ^ t + dataOf ws zs) (getD ws j none) ≡ codeIn (getD ws j none) (getD zs j (pos 0))
+unfolding dataOf
+word-data [] zs h t d n f j l = absurd (not-suc-le-zero l)
+word-data (w ∷ ws) [] h t d n f j l = absurd (omega arith)
+word-data (w ∷ ws) (z ∷ zs) h t d n f zero l =
+    let a = laid-of t w ws d in
+    let r = data-lt ws zs (w .low - 1) (a .rest) (fit-rest w ws z zs f) in
+    let s = split w h t (codeIn w z) (dataOf ws zs) (a .under) (a .sound) in
+    ap (λ (x : ℕ). bitsIn x w) (s .at-top)
+    ∙ read-word (s .front) (codeIn w z) (dataOf ws zs) (w .top) (w .low) (omega (arith, a .sound .above)) (a .sound .order) (f 0 l) r
+word-data (w ∷ ws) (z ∷ zs) h t d n f (suc j) l =
+    let a = laid-of t w ws d in
+    let s = split w h t (codeIn w z) (dataOf ws zs) (a .under) (a .sound) in
+    ap (λ (x : ℕ). bitsIn x (getD ws j none)) (s .at-low)
+    ∙ word-data ws zs (s .next) (w .low - 1) (a .rest) (omega arith) (fit-rest w ws z zs f) j (le-of-suc-le-suc l)
+
+-- and a bit in no word is 0
+neither : (a b : Bool) → (a || b) ≡ false → (a ≡ false) × (b ≡ false)
+neither true b e = absurd (true≢false e)
+neither false b e = (refl, e)
+
+outside : (l i u : ℕ) → (leb l i && leb i u) ≡ false → l ≤ i → u < i
+outside l i u e h = leb-false i u (sym (ap (λ (b : Bool). b && leb i u) (le-leb l i h)) ∙ e)
+
+pub gap-data : (ws : List Word) (zs : List ℤ) (h t : ℕ) → T (laid t ws) → Fit ws zs → (i : ℕ) → 1 ≤ i → i ≤ t → inWords ws i ≡ false
+    → bitOf (h * 2 ^ t + dataOf ws zs) i ≡ 0
+unfolding dataOf
+gap-data [] zs h t d f i l u g = clear-bit h t 0 i l u (pow-pos (i - 1))
+gap-data (w ∷ ws) [] h t d f i l u g = clear-bit h t 0 i l u (pow-pos (i - 1))
+gap-data (w ∷ ws) (z ∷ zs) h t d f i l u g =
+    let a = laid-of t w ws d in
+    let b = neither (leb (w .low) i && leb i (w .top)) (inWords ws i) g in
+    let s = split w h t (codeIn w z) (dataOf ws zs) (a .under) (a .sound) in
+    let high : w .low ≤ i → bitOf (h * 2 ^ t + dataOf (w ∷ ws) (z ∷ zs)) i ≡ 0 = (λ (m : w .low ≤ i).
+    clear-bit h t (dataOf (w ∷ ws) (z ∷ zs)) i l u (lt-of-lt-of-le (data-lt (w ∷ ws) (z ∷ zs) (w .top) (top-laid t w ws d) f) (pow-mono {i = w .top} {j = i - 1} (omega (arith, outside (w .low) i (w .top) (b .0) m))))) in
+    ⊎-elim
+    (λ (m : i < w .low). ap (λ (x : ℕ). bitOf x i) (s .at-low)
+    ∙ gap-data ws zs (s .next) (w .low - 1) (a .rest) (fit-rest w ws z zs f) i l (omega arith) (b .1))
+    (⊎-elim (λ (e : i ≡ w .low). high (omega arith)) (λ (m : w .low < i). high (omega arith)))
+    (three i (w .low))
+
+-- ---- the values of a list of words
+pub values-same : (a b : ℕ) (ws : List Word) (t : ℕ) → T (laid t ws) → a / 2 ^ 8 ≡ b / 2 ^ 8 → valuesOf a ws ≡ valuesOf b ws
+unfolding valuesOf
+values-same a b [] t d e = refl
+values-same a b (w ∷ ws) t d e =
+    let l = laid-of t w ws d in
+    ap₂ _∷_ (ap (valueIn w) (word-same a b (w .top) (w .low) e (l .sound .above))) (values-same a b ws (w .low - 1) (l .rest) e)
+
+-- where none is out of range, each is in range
+range-head : (w : Word) (ws : List Word) (z : ℤ) (zs : List ℤ) → 0 < w .top → firstBad (w ∷ ws) (z ∷ zs) ≡ 0 → (inRange w z ≡ true) × (firstBad ws zs ≡ 0)
+unfolding firstBad
+range-head w ws z zs h e = by (inRange w z) refl e
+  where
+    by : (b : Bool) → inRange w z ≡ b → pick b (firstBad ws zs) (w .top) ≡ 0 → (inRange w z ≡ true) × (firstBad ws zs ≡ 0)
+    by true q p = (q, p)
+    by false q p = absurd (omega arith)
+
+pub range-at : (ws : List Word) (zs : List ℤ) (t : ℕ) → T (laid t ws) → length zs ≡ length ws → firstBad ws zs ≡ 0 → (j : ℕ) → j < length ws
+    → inRange (getD ws j none) (getD zs j (pos 0)) ≡ true
+range-at [] zs t d n e j l = absurd (not-suc-le-zero l)
+range-at (w ∷ ws) [] t d n e j l = absurd (omega arith)
+range-at (w ∷ ws) (z ∷ zs) t d n e zero l = range-head w ws z zs (laid-of t w ws d .sound .some) e .0
+range-at (w ∷ ws) (z ∷ zs) t d n e (suc j) l =
+    let a = laid-of t w ws d in
+    range-at ws zs (w .low - 1) (a .rest) (omega arith) (range-head w ws z zs (a .sound .some) e .1) j (le-of-suc-le-suc l)
+
+-- values in range fit, and so do values that were read
+pub range-fit : (ws : List Word) (zs : List ℤ) (t : ℕ) → T (laid t ws) → length zs ≡ length ws → firstBad ws zs ≡ 0 → Fit ws zs
+range-fit ws zs t d n e j l = sound-at t ws d j .fits (getD zs j (pos 0)) (range-at ws zs t d n e j l)
+
+tidy-le : (w : Word) (raw : ℕ) → tidyWord w raw ≤ raw
+tidy-le w raw = by (eqb (w .form) 1 && eqb raw (2 ^ (w .top - w .low)))
+  where
+    by : (b : Bool) → pick b 0 raw ≤ raw
+    by true = omega arith
+    by false = le-refl raw
+
+-- the bits of a value that was read, in its word
+pub code-read : (n : ℕ) (ws : List Word) (t : ℕ) → T (laid t ws) → (j : ℕ) → j < length ws
+    → codeIn (getD ws j none) (getD (valuesOf n ws) j (pos 0)) ≡ tidyWord (getD ws j none) (bitsIn n (getD ws j none))
+code-read n ws t d j l =
+    let w = getD ws j none in
+    ap (codeIn w) (values-at n ws j l) ∙ sound-at t ws d j .clean (bitsIn n w) (word-lt n (w .top) (w .low))
+
+pub read-fit : (n : ℕ) (ws : List Word) (t : ℕ) → T (laid t ws) → Fit ws (valuesOf n ws)
+read-fit n ws t d j l =
+    let w = getD ws j none in
+    rw (code-read n ws t d j l) (lt-of-le-of-lt (tidy-le w (bitsIn n w)) (word-lt n (w .top) (w .low)))
+
+-- WRITTEN AND READ: whatever stands above bit t, the values that were written are read
+pub values-data : (ws : List Word) (zs : List ℤ) (h t : ℕ) → T (laid t ws) → length zs ≡ length ws → firstBad ws zs ≡ 0 → valuesOf (h * 2 ^ t + dataOf ws zs) ws ≡ zs
+values-data ws zs h t d n e =
+    let x = h * 2 ^ t + dataOf ws zs in
+    ext-getD (pos 0) (valuesOf x ws) zs (values-long x ws ∙ sym n)
+    (λ j l. let b : j < length ws = omega (arith, values-long x ws) in
+    let w = getD ws j none in
+    values-at x ws j b ∙ ap (valueIn w) (word-data ws zs h t d n (range-fit ws zs t d n e) j b)
+    ∙ sound-at t ws d j .back (getD zs j (pos 0)) (range-at ws zs t d n e j b))
+
+-- READ AND WRITTEN: the words that were read, but for minus zeros
+pub data-values : (n : ℕ) (ws : List Word) (t : ℕ) → T (laid t ws) → dataOf ws (valuesOf n ws) ≡ tidyWords n ws
+unfolding dataOf valuesOf tidyWords
+data-values n [] t d = refl
+data-values n (w ∷ ws) t d =
+    let a = laid-of t w ws d in
+    ap₂ (λ (c r : ℕ). c * 2 ^ (w .low - 1) + r) (a .sound .clean (bitsIn n w) (word-lt n (w .top) (w .low))) (data-values n ws (w .low - 1) (a .rest))
+
+-- THE TABLE: each word of a kind sound, each below the one before, all in bits 80..9
+all-laid : T (every (λ k. laid 80 (layout k)) kinds)
+unfolding layout
+all-laid = tt
+
+pub layout-laid : (k : Kind) → T (laid 80 (layout k))
+layout-laid k = every-kind (λ k. laid 80 (layout k)) all-laid k
+
+-- so a word of a lower place lies below: words fall
+abbrev fallTest : Kind → Bool
+fallTest k = below 8 (λ j. below j (λ i. ltb (wordAt k j .top) (wordAt k i .low)))
+
+all-fall : T (every fallTest kinds)
+unfolding layout
+all-fall = tt
+
+pub words-fall : (k : Kind) (i j : ℕ) → i < j → j < 8 → wordAt k j .top < wordAt k i .low
+words-fall k i j l u =
+    ltb→lt _ _ (below-at j (λ i. ltb (wordAt k j .top) (wordAt k i .low))
+    (below-at 8 (λ j. below j (λ i. ltb (wordAt k j .top) (wordAt k i .low))) (every-kind fallTest all-fall k) j u) i l)
+
+module _ (k : Kind) where
+  -- the data of a kind lie in bits 80..9
+  module _ (zs : List ℤ) (n : length zs ≡ 8) (e : firstBad (layout k) zs ≡ 0) where
+    kind-fit : Fit (layout k) zs
+    kind-fit = range-fit (layout k) zs 80 (layout-laid k) (n ∙ sym (layout-long k)) e
+
+    pub kind-data-lt : dataOf (layout k) zs < 2 ^ 80
+    kind-data-lt = data-lt (layout k) zs 80 (layout-laid k) kind-fit
+
+    -- WRITTEN AND READ, of any kind: whatever h stands above the data
+    pub kind-values : (h : ℕ) → valuesOf (h * 2 ^ 80 + dataOf (layout k) zs) (layout k) ≡ zs
+    kind-values h = values-data (layout k) zs h 80 (layout-laid k) (n ∙ sym (layout-long k)) e
+
+  pub kind-data-high : (zs : List ℤ) → dataOf (layout k) zs % 2 ^ 8 ≡ 0
+  kind-data-high zs = data-high (layout k) zs 80 (layout-laid k)
+
+  pub kind-values-long : (n : ℕ) → length (valuesOf n (layout k)) ≡ 8
+  kind-values-long n = values-long n (layout k) ∙ layout-long k
+
+  -- the check bits say nothing of the words
+  pub kind-values-same : (a b : ℕ) → a / 2 ^ 8 ≡ b / 2 ^ 8 → valuesOf a (layout k) ≡ valuesOf b (layout k)
+  kind-values-same a b e = values-same a b (layout k) 80 (layout-laid k) e

@@ -1,0 +1,8 @@
+pub mod Signed
+pub mod Layout
+pub mod Values
+pub mod Records
+pub mod Calls
+pub mod Reserved
+pub mod Tidied
+pub mod Known

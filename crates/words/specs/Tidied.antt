@@ -1,0 +1,53 @@
+-- A string that is read and written again (the paper, "Words"): "Minus zero reads as 0; the encoder never writes it. Reserved bits are skipped by
+-- the reader and written 0."
+-- Assumes nothing.
+use Prim.Native.Nat.{ℕ, _+_, _-_, _*_, _^_, _≤_, _<_}
+use mathlib.Core.Bool.{Bool, false, _&&_}
+use mathlib.Core.List.{List, [], _∷_}
+use mathlib.Core.Path.{_≡_}
+use lib.Dec.{eqb}
+use lib.ListN.{getD}
+use Rattle.strings.specs.Pick.{pick}
+use Rattle.strings.specs.Number.{wordOf, bitOf}
+use Rattle.strings.specs.Hamming.{Encoded, encode}
+use Rattle.words.specs.declared.table.Word.{Word}
+use Rattle.words.specs.declared.kinds.Kind.{Kind}
+use Rattle.words.specs.Layout.{layout, none}
+use Rattle.words.specs.Reserved.{inWords}
+use Rattle.words.specs.Calls.{numberIn}
+
+-- the j-th word of a kind
+abbrev pub wordAt : Kind → ℕ → Word
+wordAt k j = getD (layout k) j none
+
+-- its bits in a string
+abbrev pub bitsIn : ℕ → Word → ℕ
+bitsIn n w = wordOf n (w .top) (w .low)
+
+-- the bits of a word are minus zero: the sign alone is 1
+abbrev pub isMinusZero : Word → ℕ → Bool
+isMinusZero w raw = eqb (w .form) 1 && eqb raw (2 ^ (w .top - w .low))
+
+-- the bits of a word as they were, but 0 for minus zero
+abbrev pub tidyWord : Word → ℕ → ℕ
+tidyWord w raw = pick (isMinusZero w raw) 0 raw
+
+-- the words of a string, each so in its place, and 0 elsewhere
+unfoldable pub tidyWords : ℕ → List Word → ℕ
+tidyWords n [] = 0
+tidyWords n (w ∷ ws) = tidyWord w (bitsIn n w) * 2 ^ (w .low - 1) + tidyWords n ws
+
+-- the string n, but that reserved bits and minus zeros become plain zeros and the check bits follow
+unfoldable pub tidied : Kind → ℕ → ℕ
+tidied k n = encode (numberIn n * 2 ^ 80 + tidyWords n (layout k))
+
+-- what that says, bit for bit: t is n tidied. Together these leave no bit of t open
+pub record Tidy (k : Kind) (n t : ℕ) : Type 0 where
+  pub small : t < 2 ^ 85
+  pub encoded : Encoded t
+  pub idle : bitOf t 85 ≡ 0
+  pub number : numberIn t ≡ numberIn n
+  -- each word has n's bits, or 0 where n has minus zero there
+  pub words : (j : ℕ) → j < 8 → bitsIn t (wordAt k j) ≡ tidyWord (wordAt k j) (bitsIn n (wordAt k j))
+  -- and a bit 9..80 in no word is 0
+  pub reserved : (i : ℕ) → 9 ≤ i → i ≤ 80 → inWords (layout k) i ≡ false → bitOf t i ≡ 0
