@@ -3,11 +3,9 @@
 use mathlib.Core.Path.{_≡_, refl, _∙_, sym, ap, subst}
 use mathlib.Core.Bool.{Bool, true, false, not, _&&_, _||_}
 use mathlib.Core.List.{List, [], _∷_}
-use mathlib.Core.Logic.{_↔_}
 use Prim.Native.Nat.{ℕ, zero, suc, _<_, suc-le-suc}
 use native.Mathlib.Nat.{le-of-suc-le-suc, not-suc-le-zero, zero-lt-suc}
-use native.Mathlib.Omega.{arith}
-use lib.Dec.{T, eqb, eqb→eq, eqb-refl, T-not}
+use lib.Dec.{T, eqb, eqb-refl, T-not}
 use lib.ListN.{length, getD, drop}
 use Rattle.strings.specs.declared.Refusal.{Refusal}
 use Rattle.strings.specs.declared.Refusal.the-variants.{Channel, Shape, Damaged, Idle, Number, Early, Stale, OffBeat, Conflict, Range, Place, Room, Nothing, Slot}
@@ -18,7 +16,7 @@ use Rattle.strings.specs.declared.Written.the-variants.{Done, Refused as
 use Rattle.strings.specs.declared.Checked.{Checked}
 use Rattle.strings.specs.declared.Checked.the-variants.{Taken, Refused as NotTaken}
 use Rattle.strings.specs.Pick.{pick}
-use Rattle.strings.specs.Numbers.{refusalPaper, verdictPaper, Test, test, firstOf, placeOf, saidBy, leftBy, Answers, numberAt, FitsAt, Exactly}
+use Rattle.strings.specs.Numbers.{refusalPaper, verdictPaper, Test, firstOf, placeOf, saidBy, leftBy, Answers, numberAt, FitsAt, Exactly}
 use Rattle.strings.specs.Calls.{writtenPaper, checkedPaper}
 use Rattle.strings.proofs.Below.{and-left, and-right}
 

@@ -2,20 +2,19 @@
 -- what it has written itself. That no second answer fits; that each number is given exactly where it belongs.
 -- Assumes nothing.
 use mathlib.Core.Path.{_≡_, refl, _∙_, sym, ap, subst}
-use mathlib.Core.Bool.{Bool, true, false}
+use mathlib.Core.Bool.{true}
 use mathlib.Core.List.{List}
 use Prim.Native.Nat.{ℕ, _^_, _≤_, _<_}
 use native.Mathlib.Omega.{arith}
 use borrow.Author.Tests.{eq-eqb, eqb-false}
-use lib.Dec.{T, eqb, lit<}
+use lib.Dec.{eqb, lit<}
 use lib.ListN.{length}
 use Rattle.strings.specs.declared.Refusal.the-variants.{Damaged as DAMAGED, Idle}
 use Rattle.strings.specs.declared.Verdict.{Verdict}
 use Rattle.strings.specs.declared.Verdict.the-variants.{Clean, Repaired}
 use Rattle.strings.specs.declared.Checked.{Checked}
 use Rattle.strings.specs.declared.Checked.the-variants.{Taken, Refused}
-use Rattle.strings.specs.declared.hamming.Ruling.{Ruling}
-use Rattle.strings.specs.declared.hamming.Ruling.the-variants.{Sound, Damaged}
+use Rattle.strings.specs.declared.hamming.Ruling.the-variants.{Sound}
 use Rattle.strings.specs.Number.{numberOf, misshapen, bitOf, flip, stringBytes}
 use Rattle.strings.specs.Hamming.{ruling, isDamaged, mended, mendedBy, Encoded}
 use Rattle.strings.specs.Numbers.{verdictPaper, Exactly, FitsAt}

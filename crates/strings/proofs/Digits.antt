@@ -1,15 +1,15 @@
 -- The bits of numbers: of two combined by exclusive or, of one written from its bits, and that the bits say it all.
 -- Assumes nothing.
-use mathlib.Core.Path.{_≡_, refl, _∙_, subst, sym, ap, ap₂}
+use mathlib.Core.Path.{_≡_, refl, _∙_, subst, sym, ap}
 use mathlib.Core.Bool.{Bool, true, false}
-use mathlib.Core.Logic.{⊎-elim, _⊎_, inl, inr, _≢_}
-use Prim.Native.Nat.{ℕ, zero, suc, _+_, _-_, _*_, _/_, _%_, _^_, _≤_, _<_}
+use mathlib.Core.Logic.{⊎-elim, _⊎_, inl, inr}
+use Prim.Native.Nat.{ℕ, zero, suc, _+_, _-_, _/_, _%_, _^_, _≤_, _<_}
 use native.Mathlib.Nat.{mod-lt, mod-eq-of-lt, pow-suc, mul-comm, le-of-suc-le-suc, not-suc-le-zero, zero-lt-suc, zero-div, eq-or-lt-of-le, lt-of-lt-of-le, ne-of-lt, ne-of-gt, one-mul, div-eq-of-lt}
 use native.Mathlib.Omega.{arith}
 use lib.Arith.{digits-lt, digits-div}
 use lib.Bits.{bitXor, xor-shr, xor-mod, xor-lt}
 use lib.Dec.{eqb, ltb}
-use lib.Pow.{low, field, mod-mod-pow, shr-shr, shl-shr, pow-add, pow-pos, pow-lt, pow-mono}
+use lib.Pow.{low, field, mod-mod-pow, shr-shr, shl-shr, pow-add, pow-lt, pow-mono}
 use borrow.Author.Tests.{eq-eqb, ne-eqb, ltb-true, ltb-false}
 use Rattle.strings.specs.Pick.{pick}
 use Rattle.strings.specs.Number.{bitOf, fromBits, flip}

@@ -3,7 +3,7 @@
 use mathlib.Core.Path.{_≡_, refl, _∙_, sym, ap, ap₂}
 use mathlib.Core.Bool.{Bool}
 use Prim.Native.Nat.{ℕ, zero, suc, _+_, _-_, _*_, _/_, _%_, _^_, _≤_, _<_}
-use native.Mathlib.Nat.{mod-eq-of-lt, mod-lt, zero-lt-suc, one-mul, lt-trans}
+use native.Mathlib.Nat.{mod-eq-of-lt, mod-lt, one-mul, lt-trans}
 use native.Mathlib.Omega.{arith}
 use lib.Bits.{bitXor, xor-self, xor-shr, xor-lt, xor-zero-r, xor-shifted, xor-comm}
 use lib.Dec.{T, eqb, eqb→eq}

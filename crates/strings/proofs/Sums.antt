@@ -7,7 +7,7 @@ use native.Mathlib.Nat.{div-add-mod', mul-add, mul-assoc, mod-lt, zero-lt-suc, n
 use native.Mathlib.Omega.{arith}
 use lib.Bits.{bitXor, xor-lt}
 use lib.Dec.{T, eqb, eqb→eq}
-use Rattle.strings.specs.Number.{bitOf, fromBits, flip}
+use Rattle.strings.specs.Number.{bitOf, flip}
 use Rattle.strings.specs.Hamming.{position, addUp, syndrome, sumC, sumAll}
 use Rattle.strings.proofs.Below.{below, below-at}
 use Rattle.strings.proofs.Digits.{bit-xor, bit-from, from-lt, bits-same}

@@ -3,13 +3,13 @@
 use mathlib.Core.Path.{_≡_, refl, _∙_, subst, sym, ap, ap₂}
 use mathlib.Core.List.{List, [], _∷_, _++_, append-nil}
 use Prim.Native.Nat.{ℕ, zero, suc, _+_, _-_, _*_, _/_, _%_, _^_, _≤_, _<_}
-use native.Mathlib.Nat.{add-comm, add-mul-div-right, mod-eq-of-lt, mod-lt, mod-one, mul-assoc, mul-comm, mul-mod-left, mul-add-mod-self-right, add-zero, zero-lt-suc, one-mul, lt-of-lt-of-le}
+use native.Mathlib.Nat.{add-comm, add-mul-div-right, mod-eq-of-lt, mod-lt, mod-one, mul-assoc, mul-mod-left, mul-add-mod-self-right, add-zero, zero-lt-suc, one-mul, lt-of-lt-of-le}
 use native.Mathlib.Omega.{arith}
 use lib.Arith.{digits-lt}
 use lib.Bits.{bitXor, xor-block, xor-zero-r, xor-shr, xor-mod}
 use lib.Dec.{lit<}
 use lib.ListN.{length, getD, set, take, drop, length-set, drop-of-length-le}
-use lib.Pow.{pow-pos, pow-lt, pow-mono, pow-add, shl-lt, shl-shr, shl-exact, shr-shr, high, mod-pow-add, mod-mod-pow, field}
+use lib.Pow.{pow-pos, pow-lt, pow-mono, pow-add, shl-lt, shl-shr, shl-exact, shr-shr, high, mod-pow-add}
 use lib.Seq.{ext-getD, take-length}
 use Rattle.strings.specs.Number.{valueOf, bytesOf, bitOf, numberOf, paddingOf, flip, stringBytes}
 use Rattle.strings.proofs.Digits.{low-digit}

@@ -7,7 +7,6 @@ use lib.Bits.{bitXor}
 use lib.Dec.{leb, eqb}
 use Rattle.strings.specs.declared.Verdict.{Verdict}
 use Rattle.strings.specs.declared.Verdict.the-variants.{Clean, Repaired}
-use Rattle.strings.specs.declared.hamming.Damage.{Damage}
 use Rattle.strings.specs.declared.hamming.Damage.the-variants.{Unplaced, Even, Outside}
 use Rattle.strings.specs.declared.hamming.Ruling.{Ruling}
 use Rattle.strings.specs.declared.hamming.Ruling.the-variants.{Sound, Damaged}

@@ -7,9 +7,8 @@ use crate::bits::flip_bit;
 use crate::bits::well_shaped;
 ghost use mathlib.Core.Path.{_≡_};
 ghost use mathlib.Core.Bool.{false};
-ghost use Prim.Native.Nat.{_≤_};
 ghost use lib.ListN.{length};
-ghost use Rattle.strings.specs.Number.{bitOf, numberOf, misshapen, stringBytes};
+ghost use Rattle.strings.specs.Number.{numberOf, misshapen, stringBytes};
 ghost use Rattle.strings.specs.Relative.{readRelative, writeRelative};
 ghost use Rattle.strings.specs.Calls.{ReadsRelative, WritesRelative};
 

@@ -3,24 +3,21 @@
 use mathlib.Core.Path.{_≡_, refl, sym, ap, ap₂, subst, _∙_}
 use mathlib.Core.Bool.{Bool, true, false}
 use mathlib.Core.List.{List, [], _∷_, _++_}
-use Prim.Native.Nat.{ℕ, zero, suc, _/_, _^_, _<_}
-use native.Mathlib.Nat.{mod-one}
+use Prim.Native.Nat.{ℕ, zero, suc, _<_}
 use native.Mathlib.Omega.{arith}
-use lib.Dec.{T, lit<}
-use lib.IntN.{ℤ}
+use lib.Dec.{lit<}
 use lib.ListN.{length}
 use borrow.Author.Tests.{ne-eqb}
 use Rattle.strings.specs.declared.Refusal.{Refusal}
 use Rattle.strings.specs.declared.Verdict.{Verdict}
-use Rattle.strings.specs.declared.Verdict.the-variants.{Clean, Repaired}
 use Rattle.strings.specs.declared.Written.the-variants.{Done, Refused as NotWritten}
 use Rattle.strings.specs.declared.Checked.{Checked}
 use Rattle.strings.specs.declared.Checked.the-variants.{Taken, Refused as NotTaken}
 use Rattle.strings.specs.declared.hamming.Ruling.{Ruling}
 use Rattle.strings.specs.declared.hamming.Ruling.the-variants.{Sound, Damaged}
 use Rattle.strings.specs.Pick.{pick}
-use Rattle.strings.specs.Number.{numberOf, misshapen, wordOf}
-use Rattle.strings.specs.Hamming.{ruling, isDamaged, mended, mendedBy}
+use Rattle.strings.specs.Number.{numberOf, misshapen}
+use Rattle.strings.specs.Hamming.{ruling, isDamaged, mended}
 use Rattle.strings.specs.Numbers.{refusalPaper, verdictPaper, Test, firstOf, placeOf, saidBy, answerOf}
 use Rattle.strings.specs.Calls.{Checks, checkedPaper, verdictTold, stringTests, isIdle}
 use Rattle.strings.proofs.Answer.{checked-same, written-same, taken-made}
@@ -30,7 +27,6 @@ use Rattle.strings.proofs.Judge.{mended-lt}
 use Rattle.strings.proofs.Shape.{shaped, has-room}
 use Rattle.strings.proofs.Value.{Bytes, number-lt, string-number}
 use Rattle.words.specs.declared.kinds.Kind.{Kind}
-use Rattle.words.specs.declared.kinds.Kind.the-variants.{One, Two, Three, Four, Five, Even, Odd, Fourteen}
 use Rattle.words.specs.declared.records.Record.{Record}
 use Rattle.words.specs.declared.reading.Reading.{Reading}
 use Rattle.words.specs.declared.reading.Reading.the-variants.{Read, Refused}

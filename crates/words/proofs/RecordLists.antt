@@ -14,7 +14,7 @@ use Rattle.strings.specs.Number.{wordOf}
 use Rattle.words.specs.declared.kinds.Kind.{Kind}
 use Rattle.words.specs.declared.kinds.Kind.the-variants.{One, Two, Three, Four, Five, Even, Odd, Fourteen}
 use Rattle.words.specs.declared.records.Record.{Record}
-use Rattle.words.specs.declared.records.Record.the-variants.{First, Second, Third, Fourth, Fifth, Sixth, Seventh, Eighth}
+use Rattle.words.specs.declared.records.Record.the-variants.{One as One′, Two as Two′, Three as Three′, Four as Four′, Five as Five′, Even as Even′, Odd as Odd′, Fourteen as Fourteen′}
 use Rattle.words.specs.Layout.{layout, kindNumber, ofKind}
 use Rattle.words.specs.Values.{valuesOf, firstBad, dataOf}
 use Rattle.words.specs.Records.{kindOf, listOf, recordOf}
@@ -24,25 +24,25 @@ use Rattle.words.proofs.Trip.{and-both, kind-data-lt}
 -- ---- a record is its kind and the list of its values
 pub list-long : (r : Record) → length (listOf r) ≡ 8
 unfolding listOf
-list-long (First r) = refl
-list-long (Second r) = refl
-list-long (Third r) = refl
-list-long (Fourth r) = refl
-list-long (Fifth r) = refl
-list-long (Sixth r) = refl
-list-long (Seventh r) = refl
-list-long (Eighth r) = refl
+list-long (One′ r) = refl
+list-long (Two′ r) = refl
+list-long (Three′ r) = refl
+list-long (Four′ r) = refl
+list-long (Five′ r) = refl
+list-long (Even′ r) = refl
+list-long (Odd′ r) = refl
+list-long (Fourteen′ r) = refl
 
 pub record-list : (r : Record) → recordOf (kindOf r) (listOf r) ≡ r
 unfolding listOf recordOf
-record-list (First r) = refl
-record-list (Second r) = refl
-record-list (Third r) = refl
-record-list (Fourth r) = refl
-record-list (Fifth r) = refl
-record-list (Sixth r) = refl
-record-list (Seventh r) = refl
-record-list (Eighth r) = refl
+record-list (One′ r) = refl
+record-list (Two′ r) = refl
+record-list (Three′ r) = refl
+record-list (Four′ r) = refl
+record-list (Five′ r) = refl
+record-list (Even′ r) = refl
+record-list (Odd′ r) = refl
+record-list (Fourteen′ r) = refl
 
 pub kind-same : (k l : Kind) → kindNumber k ≡ kindNumber l → k ≡ l
 kind-same k l e = sym (kind-back k) ∙ ap kindAt e ∙ kind-back l

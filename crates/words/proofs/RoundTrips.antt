@@ -10,7 +10,7 @@ use Prim.Native.Nat.{ℕ, suc, _+_, _-_, _*_, _/_, _%_, _^_, _≤_, _<_, suc-le-
 use native.Mathlib.Nat.{mod-lt, zero-lt-suc}
 use native.Mathlib.Omega.{arith}
 use borrow.Author.Tests.{eq-eqb, ne-eqb, eqb-true, leb-true, not-false}
-use lib.Dec.{T, eqb, leb, lit<, lit≤}
+use lib.Dec.{eqb, leb, lit<, lit≤}
 use lib.IntN.{ℤ}
 use lib.ListN.{length, getD}
 use lib.Pow.{shr-shr}
@@ -35,9 +35,7 @@ use Rattle.strings.proofs.Flips.{encoded-ruling}
 use Rattle.strings.proofs.Judge.{mended-by}
 use Rattle.words.specs.declared.table.Word.{Word}
 use Rattle.words.specs.declared.kinds.Kind.{Kind}
-use Rattle.words.specs.declared.kinds.Kind.the-variants.{One, Two, Three, Four, Five, Even, Odd, Fourteen}
 use Rattle.words.specs.declared.records.Record.{Record}
-use Rattle.words.specs.declared.records.Record.the-variants.{First, Second, Third, Fourth, Fifth, Sixth, Seventh, Eighth}
 use Rattle.words.specs.declared.reading.Reading.{Reading}
 use Rattle.words.specs.declared.reading.Reading.the-variants.{Read, Refused}
 use Rattle.words.specs.Layout.{layout, none, kindNumber, ofKind}

@@ -1,6 +1,6 @@
 -- The record of each kind: its words by name, in the order of the layout, and as the list of their values.
 -- Assumes nothing.
-use mathlib.Core.List.{List, [], _∷_, _++_}
+use mathlib.Core.List.{List, [], _∷_}
 use Prim.Native.Nat.{ℕ, _*_}
 use lib.IntN.{ℤ, pos}
 use lib.ListN.{getD, take, drop}
@@ -16,7 +16,7 @@ use Rattle.words.specs.declared.records.EvenString.{EvenString}
 use Rattle.words.specs.declared.records.OddString.{OddString}
 use Rattle.words.specs.declared.records.String14.{String14}
 use Rattle.words.specs.declared.records.Record.{Record}
-use Rattle.words.specs.declared.records.Record.the-variants.{First, Second, Third, Fourth, Fifth, Sixth, Seventh, Eighth}
+use Rattle.words.specs.declared.records.Record.the-variants.{One as One′, Two as Two′, Three as Three′, Four as Four′, Five as Five′, Even as Even′, Odd as Odd′, Fourteen as Fourteen′}
 use Rattle.words.specs.declared.records.ImmediateWords.{ImmediateWords}
 use Rattle.words.specs.Layout.{layout}
 use Rattle.words.specs.Values.{valuesOf}
@@ -75,34 +75,34 @@ string14List r = r .b1 ∷ r .b2 ∷ r .kp ∷ pos 0 ∷ pos 0 ∷ pos 0 ∷ pos
 
 -- ---- any kind
 abbrev pub kindOf : Record → Kind
-kindOf (First r) = One
-kindOf (Second r) = Two
-kindOf (Third r) = Three
-kindOf (Fourth r) = Four
-kindOf (Fifth r) = Five
-kindOf (Sixth r) = Even
-kindOf (Seventh r) = Odd
-kindOf (Eighth r) = Fourteen
+kindOf (One′ r) = One
+kindOf (Two′ r) = Two
+kindOf (Three′ r) = Three
+kindOf (Four′ r) = Four
+kindOf (Five′ r) = Five
+kindOf (Even′ r) = Even
+kindOf (Odd′ r) = Odd
+kindOf (Fourteen′ r) = Fourteen
 
 unfoldable pub listOf : Record → List ℤ
-listOf (First r) = string1List r
-listOf (Second r) = string2List r
-listOf (Third r) = string3List r
-listOf (Fourth r) = string4List r
-listOf (Fifth r) = string5List r
-listOf (Sixth r) = evenList r
-listOf (Seventh r) = oddList r
-listOf (Eighth r) = string14List r
+listOf (One′ r) = string1List r
+listOf (Two′ r) = string2List r
+listOf (Three′ r) = string3List r
+listOf (Four′ r) = string4List r
+listOf (Five′ r) = string5List r
+listOf (Even′ r) = evenList r
+listOf (Odd′ r) = oddList r
+listOf (Fourteen′ r) = string14List r
 
 unfoldable pub recordOf : Kind → List ℤ → Record
-recordOf One v = First (string1Of v)
-recordOf Two v = Second (string2Of v)
-recordOf Three v = Third (string3Of v)
-recordOf Four v = Fourth (string4Of v)
-recordOf Five v = Fifth (string5Of v)
-recordOf Even v = Sixth (evenOf v)
-recordOf Odd v = Seventh (oddOf v)
-recordOf Fourteen v = Eighth (string14Of v)
+recordOf One v = One′ (string1Of v)
+recordOf Two v = Two′ (string2Of v)
+recordOf Three v = Three′ (string3Of v)
+recordOf Four v = Four′ (string4Of v)
+recordOf Five v = Five′ (string5Of v)
+recordOf Even v = Even′ (evenOf v)
+recordOf Odd v = Odd′ (oddOf v)
+recordOf Fourteen v = Fourteen′ (string14Of v)
 
 -- ---- an immediate record: the words of strings 1 to 4, each read where it stands in 44 bytes
 abbrev pub stringAt : List ℕ → ℕ → ℕ

@@ -85,14 +85,14 @@ pub struct String14 {
 
 // A record of any kind.
 pub enum Record {
-    First(String1),
-    Second(String2),
-    Third(String3),
-    Fourth(String4),
-    Fifth(String5),
-    Sixth(EvenString),
-    Seventh(OddString),
-    Eighth(String14),
+    One(String1),
+    Two(String2),
+    Three(String3),
+    Four(String4),
+    Five(String5),
+    Even(EvenString),
+    Odd(OddString),
+    Fourteen(String14),
 }
 
 // The words of strings 1 to 4 together.
@@ -258,14 +258,14 @@ pub fn kind_of(r: Record) -> Kind
     ensures { λ k. ⌜ k ≡ kindOf r ⌝ }
 {
     match r {
-        Record::First(_) => Kind::One,
-        Record::Second(_) => Kind::Two,
-        Record::Third(_) => Kind::Three,
-        Record::Fourth(_) => Kind::Four,
-        Record::Fifth(_) => Kind::Five,
-        Record::Sixth(_) => Kind::Even,
-        Record::Seventh(_) => Kind::Odd,
-        Record::Eighth(_) => Kind::Fourteen,
+        Record::One(_) => Kind::One,
+        Record::Two(_) => Kind::Two,
+        Record::Three(_) => Kind::Three,
+        Record::Four(_) => Kind::Four,
+        Record::Five(_) => Kind::Five,
+        Record::Even(_) => Kind::Even,
+        Record::Odd(_) => Kind::Odd,
+        Record::Fourteen(_) => Kind::Fourteen,
     }
 }
 
@@ -273,14 +273,14 @@ pub fn list_of(r: Record) -> [i32; 8]
     ensures { λ v. ⌜ v ≡ listOf r ⌝ }
 {
     match r {
-        Record::First(x) => string1_list(x),
-        Record::Second(x) => string2_list(x),
-        Record::Third(x) => string3_list(x),
-        Record::Fourth(x) => string4_list(x),
-        Record::Fifth(x) => string5_list(x),
-        Record::Sixth(x) => even_list(x),
-        Record::Seventh(x) => odd_list(x),
-        Record::Eighth(x) => string14_list(x),
+        Record::One(x) => string1_list(x),
+        Record::Two(x) => string2_list(x),
+        Record::Three(x) => string3_list(x),
+        Record::Four(x) => string4_list(x),
+        Record::Five(x) => string5_list(x),
+        Record::Even(x) => even_list(x),
+        Record::Odd(x) => odd_list(x),
+        Record::Fourteen(x) => string14_list(x),
     }
 }
 
@@ -288,13 +288,13 @@ pub fn record_of(k: Kind, v: [i32; 8]) -> Record
     ensures { λ r. ⌜ r ≡ recordOf k v ⌝ }
 {
     match k {
-        Kind::One => Record::First(string1_of(v)),
-        Kind::Two => Record::Second(string2_of(v)),
-        Kind::Three => Record::Third(string3_of(v)),
-        Kind::Four => Record::Fourth(string4_of(v)),
-        Kind::Five => Record::Fifth(string5_of(v)),
-        Kind::Even => Record::Sixth(even_of(v)),
-        Kind::Odd => Record::Seventh(odd_of(v)),
-        Kind::Fourteen => Record::Eighth(string14_of(v)),
+        Kind::One => Record::One(string1_of(v)),
+        Kind::Two => Record::Two(string2_of(v)),
+        Kind::Three => Record::Three(string3_of(v)),
+        Kind::Four => Record::Four(string4_of(v)),
+        Kind::Five => Record::Five(string5_of(v)),
+        Kind::Even => Record::Even(even_of(v)),
+        Kind::Odd => Record::Odd(odd_of(v)),
+        Kind::Fourteen => Record::Fourteen(string14_of(v)),
     }
 }

@@ -1,5 +1,5 @@
 -- `checking::mend` meets its contract. Assumes nothing.
-use mathlib.Core.Path.{_≡_, _∙_, refl, sym, ap, subst}
+use mathlib.Core.Path.{_∙_, refl, sym, ap, subst}
 use borrow.Author.Needs.{needs}
 use denote.Ref.{now}
 use Rattle.strings.specs.declared.Verdict.{Verdict}

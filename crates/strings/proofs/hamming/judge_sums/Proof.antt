@@ -1,10 +1,10 @@
 -- `hamming::judge_sums` meets its contract. Assumes nothing.
 use mathlib.Core.Path.{_≡_, sym, ap, _∙_}
-use Prim.Native.Nat.{ℕ, _+_, _-_, _^_}
+use Prim.Native.Nat.{ℕ, _-_, _^_}
 use native.Mathlib.Omega.{arith}
 use borrow.Author.Needs.{needs}
 use borrow.Author.Tests.{eq-eqb, ne-eqb}
-use Rattle.strings.specs.Hamming.{highest, howMany, placed, judge}
+use Rattle.strings.specs.Hamming.{highest, howMany, judge}
 use Rattle.strings.proofs.Judge.{Weighed, weighed, shifted}
 use Rattle.strings.proofs.hamming.judge_sums.Statement.{statement}
 use Rattle.strings.proofs.hamming.judge_sums.Tie as tie

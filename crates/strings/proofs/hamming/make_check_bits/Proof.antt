@@ -1,14 +1,12 @@
 -- `hamming::make_check_bits` meets its contract: before check bit k those below it are made, and `all` is the sum of all bits. Assumes nothing.
-use mathlib.Core.Path.{_≡_, refl, sym, ap, _∙_}
-use mathlib.Core.List.{List}
+use mathlib.Core.Path.{_≡_, sym, ap, _∙_}
 use mathlib.Core.Logic.{⊎-elim}
-use Prim.Native.Nat.{ℕ, _+_, _-_, _^_, _≤_, _<_}
+use Prim.Native.Nat.{ℕ, _-_, _^_, _≤_, _<_}
 use native.Mathlib.Omega.{arith}
-use borrow.Author.Needs.{needs}
 use lib.ListN.{length}
 use denote.Ref.{now}
-use Rattle.strings.specs.Number.{bitOf, numberOf, paddingOf, flip, stringBytes}
-use Rattle.strings.specs.Hamming.{syndrome, sumAll, sumsMade, encode}
+use Rattle.strings.specs.Number.{bitOf, numberOf, flip, stringBytes}
+use Rattle.strings.specs.Hamming.{syndrome, sumAll, sumsMade}
 use Rattle.strings.proofs.Digits.{bit-lt}
 use Rattle.strings.proofs.Value.{number-lt, string-is, string-length, flipped}
 use Rattle.strings.proofs.Sums.{sumAll-lt, flip-all}

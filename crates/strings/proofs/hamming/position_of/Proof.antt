@@ -1,6 +1,6 @@
 -- `hamming::position_of` meets its contract. Assumes nothing.
-use mathlib.Core.Path.{_∙_, sym, ap}
-use Prim.Native.Nat.{_-_, _^_}
+use mathlib.Core.Path.{sym, ap}
+use Prim.Native.Nat.{_-_}
 use native.Mathlib.Omega.{arith}
 use borrow.Author.Needs.{needs}
 use borrow.Author.Tests.{le-leb}

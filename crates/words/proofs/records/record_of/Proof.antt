@@ -1,6 +1,6 @@
 -- `records::record_of` meets its contract, arm by arm. Assumes nothing.
 use mathlib.Core.Path.{ap}
-use Rattle.words.specs.declared.records.Record.the-variants.{First, Second, Third, Fourth, Fifth, Sixth, Seventh, Eighth}
+use Rattle.words.specs.declared.records.Record.the-variants.{One as One′, Two as Two′, Three as Three′, Four as Four′, Five as Five′, Even as Even′, Odd as Odd′, Fourteen as Fourteen′}
 use Rattle.words.specs.Records.{recordOf}
 use borrow.Author.Needs.{needs}
 use Rattle.words.proofs.records.record_of.Statement.{statement}
@@ -56,35 +56,35 @@ string14-of-requires c κs = search needs
 
 returns : tie.Need-returns
 unfolding recordOf
-returns c = rw (c .before .enum-told .given .1) (ap First (c .string1-of .ensures))
+returns c = rw (c .before .enum-told .given .1) (ap One′ (c .string1-of .ensures))
 
 returns-2 : tie.Need-returns-2
 unfolding recordOf
-returns-2 c = rw (c .before .enum-told2 .given .1) (ap Second (c .string2-of .ensures))
+returns-2 c = rw (c .before .enum-told2 .given .1) (ap Two′ (c .string2-of .ensures))
 
 returns-3 : tie.Need-returns-3
 unfolding recordOf
-returns-3 c = rw (c .before .enum-told3 .given .1) (ap Third (c .string3-of .ensures))
+returns-3 c = rw (c .before .enum-told3 .given .1) (ap Three′ (c .string3-of .ensures))
 
 returns-4 : tie.Need-returns-4
 unfolding recordOf
-returns-4 c = rw (c .before .enum-told4 .given .1) (ap Fourth (c .string4-of .ensures))
+returns-4 c = rw (c .before .enum-told4 .given .1) (ap Four′ (c .string4-of .ensures))
 
 returns-5 : tie.Need-returns-5
 unfolding recordOf
-returns-5 c = rw (c .before .enum-told5 .given .1) (ap Fifth (c .string5-of .ensures))
+returns-5 c = rw (c .before .enum-told5 .given .1) (ap Five′ (c .string5-of .ensures))
 
 returns-6 : tie.Need-returns-6
 unfolding recordOf
-returns-6 c = rw (c .before .enum-told6 .given .1) (ap Sixth (c .even-of .ensures))
+returns-6 c = rw (c .before .enum-told6 .given .1) (ap Even′ (c .even-of .ensures))
 
 returns-7 : tie.Need-returns-7
 unfolding recordOf
-returns-7 c = rw (c .before .enum-told7 .given .1) (ap Seventh (c .odd-of .ensures))
+returns-7 c = rw (c .before .enum-told7 .given .1) (ap Odd′ (c .odd-of .ensures))
 
 returns-8 : tie.Need-returns-8
 unfolding recordOf
-returns-8 c = rw (c .before .enum-told8 .given .1) (ap Eighth (c .string14-of .ensures))
+returns-8 c = rw (c .before .enum-told8 .given .1) (ap Fourteen′ (c .string14-of .ensures))
 
 pub record-of-spec : {M : Type 1} → statement M
 record-of-spec =

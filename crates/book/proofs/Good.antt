@@ -1,0 +1,55 @@
+-- All words of a string are in range: said of its bits, by the reader's law `reading-fails`.
+-- Assumes nothing.
+use mathlib.Core.Path.{_≡_, refl, sym, ap, _∙_}
+use mathlib.Core.Bool.{Bool, true, false, _&&_, false≢true}
+use Prim.Native.Nat.{ℕ, _≤_}
+use native.Mathlib.Omega.{arith}
+use borrow.Author.Tests.{ne-eqb, leb-true}
+use lib.Dec.{eqb, leb, lit≤}
+use Rattle.strings.specs.Pick.{pick}
+use Rattle.words.specs.declared.kinds.Kind.{Kind}
+use Rattle.words.proofs.Ranges.{readable, mayFail, reading-fails}
+use Rattle.words.specs.declared.kinds.Kind.the-variants.{Five, Even, Odd}
+use Rattle.book.specs.Shows.{isGood, isShown, fourYears, dayInFour, slotIn}
+
+-- of a kind that has a word that can be out of range
+pub good-is : (k : Kind) (n : ℕ) → 1 ≤ mayFail k → isGood k n ≡ readable n k
+unfolding isGood
+good-is k n h = ap (λ (x : ℕ). eqb x 0) (reading-fails n k) ∙ by (readable n k)
+  where
+    by : (b : Bool) → eqb (pick b 0 (mayFail k)) 0 ≡ b
+    by true = refl
+    by false = ne-eqb (mayFail k) 0 (λ e. omega arith)
+
+-- ---- two tests
+pub both : (a b : Bool) → (a && b) ≡ true → (a ≡ true) × (b ≡ true)
+both true b e = (refl, e)
+both false b e = absurd (false≢true e)
+
+-- ---- what the tests of a shown entry say
+-- string 5 is read first, then the halves
+pub shown-is : (five even odd : ℕ) → isShown five even odd ≡ ((isGood Five five && leb 1 (fourYears five)) && (isGood Even even && isGood Odd odd))
+unfolding isShown
+shown-is five even odd = by (isGood Five five) (leb 1 (fourYears five)) (isGood Even even && isGood Odd odd)
+  where
+    by : (a b c : Bool) → (a && (b && c)) ≡ ((a && b) && c)
+    by true b c = refl
+    by false b c = refl
+
+-- a string 5 that is good and states N4: "NA 1..1461", "N4 at least 1"
+pub record DayRead (n : ℕ) : Type 0 where
+  pub stated : 1 ≤ fourYears n
+  pub least : 1 ≤ dayInFour n
+  pub most : dayInFour n ≤ 1461
+
+pub day-read : (n : ℕ) → (isGood Five n && leb 1 (fourYears n)) ≡ true → DayRead n
+day-read n e =
+    let p = both (isGood Five n) (leb 1 (fourYears n)) e in
+    let q = both (leb 1 (dayInFour n)) (leb (dayInFour n) 1461) (sym (good-is Five n (lit≤ tt)) ∙ p .0) in
+    record { stated = leb-true 1 (fourYears n) (p .1); least = leb-true 1 (dayInFour n) (q .0); most = leb-true (dayInFour n) 1461 (q .1) }
+
+-- a good even string: "nA 1..24"
+pub slot-read : (n : ℕ) → isGood Even n ≡ true → (1 ≤ slotIn n) × (slotIn n ≤ 24)
+slot-read n e =
+    let q = both (leb 1 (slotIn n)) (leb (slotIn n) 24) (sym (good-is Even n (lit≤ tt)) ∙ e) in
+    (leb-true 1 (slotIn n) (q .0), leb-true (slotIn n) 24 (q .1))

@@ -1,0 +1,4 @@
+pub mod Entry
+pub mod Shows
+pub mod Book
+pub mod Known
