@@ -44,6 +44,16 @@ pub enum Verdict {
     Repaired { bit: usize },
 }
 
+impl Verdict {
+    /// 0 where nothing was repaired.
+    pub fn repaired_bit(self) -> usize {
+        match self {
+            Verdict::Clean => 0,
+            Verdict::Repaired { bit } => bit,
+        }
+    }
+}
+
 /// The sums of one string: C1..C7, and C over the whole string.
 #[derive(Clone, Copy, Debug, PartialEq, Eq)]
 pub struct Sums {

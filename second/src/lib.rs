@@ -3,13 +3,16 @@
 //! It is written from the paper and GLONASS ICD 5.0 alone and is compared with
 //! the receiver card's own library, answer by answer.
 
+pub mod alter;
 pub mod hamming;
 pub mod known;
+pub mod listing;
 pub mod make;
 pub mod random;
 pub mod refusal;
 pub mod relative;
 pub mod request;
+pub mod station;
 pub mod string;
 pub mod trial;
 pub mod words;

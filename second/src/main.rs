@@ -1,21 +1,33 @@
 //! The command line: makes an input, or answers one.
 
 use std::ffi::OsString;
-use std::io::{self, Read, Write};
+use std::io::{self, BufReader, BufWriter, Read, Write};
 use std::process::ExitCode;
 
-use second::{make, trial};
+use second::{listing, make, trial};
 
 const USAGE: &str = "usage:
-  second make trial SEED   write an input for trial to standard output
-  second answer trial      read an input, write the expected output
-SEED is a decimal number from 0 to 18446744073709551615.";
+  second make trial SEED           write an input for trial
+  second make words SEED           write an input for trial: requests 1 to 5 alone
+  second make tallies              write an input for trial: tallies past 65,535
+  second make listing SEED COUNT   write COUNT records for the listing
+  second make sample               write a few records for the listing
+  second make sample trial         write the same records as an input for trial
+  second answer trial              read an input for trial, write the expected output
+  second answer listing            read records, write the expected lines
+SEED and COUNT are decimal numbers from 0 to 18446744073709551615.";
 
 const WRONG_ARGUMENTS: u8 = 2;
 
 enum Command {
     MakeTrial { seed: u64 },
+    MakeWords { seed: u64 },
+    MakeTallies,
+    MakeSampleTrial,
+    MakeListing { seed: u64, count: u64 },
+    MakeSampleListing,
     AnswerTrial,
+    AnswerListing,
 }
 
 fn main() -> ExitCode {
@@ -35,25 +47,47 @@ fn main() -> ExitCode {
 
 fn parse(arguments: &[OsString]) -> Option<Command> {
     let arguments: Option<Vec<&str>> = arguments.iter().map(|word| word.to_str()).collect();
-    match arguments?.as_slice() {
-        ["make", "trial", seed] => {
-            let seed = seed.parse().ok()?;
-            Some(Command::MakeTrial { seed })
-        }
-        ["answer", "trial"] => Some(Command::AnswerTrial),
-        _ => None,
-    }
+    let command = match arguments?.as_slice() {
+        ["make", "trial", seed] => Command::MakeTrial {
+            seed: seed.parse().ok()?,
+        },
+        ["make", "words", seed] => Command::MakeWords {
+            seed: seed.parse().ok()?,
+        },
+        ["make", "tallies"] => Command::MakeTallies,
+        ["make", "sample", "trial"] => Command::MakeSampleTrial,
+        ["make", "listing", seed, count] => Command::MakeListing {
+            seed: seed.parse().ok()?,
+            count: count.parse().ok()?,
+        },
+        ["make", "sample"] => Command::MakeSampleListing,
+        ["answer", "trial"] => Command::AnswerTrial,
+        ["answer", "listing"] => Command::AnswerListing,
+        _ => return None,
+    };
+    Some(command)
 }
 
 fn run(command: Command) -> io::Result<()> {
-    let output = match command {
-        Command::MakeTrial { seed } => make::trial_input(seed),
-        Command::AnswerTrial => trial::answer_input(&standard_input()?).into_bytes(),
-    };
-    io::stdout().write_all(&output)
+    let mut output = BufWriter::new(io::stdout().lock());
+    match command {
+        Command::MakeTrial { seed } => output.write_all(&make::trial_input(seed))?,
+        Command::MakeWords { seed } => output.write_all(&make::words_input(seed))?,
+        Command::MakeTallies => output.write_all(&make::tallies_input())?,
+        Command::MakeSampleTrial => output.write_all(&make::sample_for_trial())?,
+        Command::MakeListing { seed, count } => make::write_listing(seed, count, &mut output)?,
+        Command::MakeSampleListing => output.write_all(&make::sample_for_listing())?,
+        Command::AnswerTrial => {
+            output.write_all(trial::answer_input(&whole_input()?).as_bytes())?
+        }
+        Command::AnswerListing => {
+            listing::answer_stream(BufReader::new(io::stdin().lock()), &mut output)?
+        }
+    }
+    output.flush()
 }
 
-fn standard_input() -> io::Result<Vec<u8>> {
+fn whole_input() -> io::Result<Vec<u8>> {
     let mut input = Vec::new();
     io::stdin().read_to_end(&mut input)?;
     Ok(input)

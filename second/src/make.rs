@@ -1,11 +1,21 @@
-//! Makes the input that `trial` is run on, from a seed.
+//! Makes inputs: requests for `trial` and records for the listing, from a seed.
 
+mod feed;
+mod hearing;
+mod sample;
+mod satellite;
+mod station;
 mod strings;
 mod words;
 
+use std::io::{self, Write};
+
+use crate::listing::Record;
 use crate::random::SplitMix64;
 use crate::request;
+use crate::station::CHANNELS;
 use crate::string::BYTES;
+use feed::Feed;
 
 const RIGHT_ROOM: u8 = BYTES as u8;
 const WRONG_ROOMS: [u8; 8] = [0, 1, 10, 12, 22, 127, 128, 255];
@@ -13,12 +23,52 @@ const WRONG_LENGTHS: [usize; 13] = [0, 1, 2, 8, 9, 10, 12, 13, 16, 22, 255, 256,
 
 /// The same seed always gives the same bytes.
 pub fn trial_input(seed: u64) -> Vec<u8> {
+    made_of(seed, &[strings::add_all, words::add_all, station::add_all])
+}
+
+/// Requests 1 to 5 alone, for a `trial` that has no station.
+pub fn words_input(seed: u64) -> Vec<u8> {
+    made_of(seed, &[strings::add_all, words::add_all])
+}
+
+/// The parts one after another; then what no part owns.
+fn made_of(seed: u64, parts: &[fn(&mut Input)]) -> Vec<u8> {
     let mut input = Input::new(seed);
-    strings::add_all(&mut input);
-    words::add_all(&mut input);
+    for add_all in parts {
+        add_all(&mut input);
+    }
     input.add_unknown_ops();
     input.add_cut_short();
     input.bytes
+}
+
+/// So many records, written as they are made.
+pub fn write_listing(seed: u64, count: u64, output: &mut impl Write) -> io::Result<()> {
+    let mut feed = Feed::new(seed, CHANNELS as u8);
+    for _ in 0..count {
+        let record = feed.next().expect("an endless feed");
+        output.write_all(&record.to_bytes())?;
+    }
+    Ok(())
+}
+
+/// Tallies past their limit: some 260,000 offers, without a seed.
+pub fn tallies_input() -> Vec<u8> {
+    let mut input = Input::new(0);
+    station::tallies::add_all(&mut input);
+    input.bytes
+}
+
+/// The sample needs no seed either.
+pub fn sample_for_trial() -> Vec<u8> {
+    let mut input = Input::new(0);
+    sample::add_all(&mut input);
+    input.bytes
+}
+
+pub fn sample_for_listing() -> Vec<u8> {
+    let records = sample::records();
+    records.iter().flat_map(Record::to_bytes).collect()
 }
 
 /// An input being made, and the random numbers it is made of.

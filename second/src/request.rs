@@ -11,6 +11,13 @@ pub const TO_RELATIVE: u8 = 2;
 pub const CHECK: u8 = 3;
 pub const READ: u8 = 4;
 pub const WRITE: u8 = 5;
+pub const OFFER: u8 = 6;
+pub const RESET: u8 = 7;
+pub const IMMEDIATE: u8 = 8;
+pub const ENTRY: u8 = 9;
+pub const TALLIES: u8 = 10;
+pub const HEALTH: u8 = 11;
+pub const FRESH: u8 = 12;
 
 #[derive(Clone, Copy, Debug, PartialEq, Eq)]
 pub struct Request<'a> {

@@ -1,31 +1,33 @@
-//! Answers to `trial` requests: one line for each.
+//! Answers to `trial` requests: one line for each, all to one station.
 
+mod station;
 mod strings;
 mod words;
 
-use crate::hamming::Verdict;
 use crate::refusal::Refusal;
 use crate::request::{self, Piece, Request};
+use crate::station::Station;
 use crate::string::{NavString, BYTES};
 
 type Answer = Result<String, Refusal>;
 
-/// The lines for a whole input.
+/// The lines for a whole input. The station is fresh at its start.
 pub fn answer_input(input: &[u8]) -> String {
+    let mut station = Station::default();
     request::pieces(input)
-        .map(|piece| answer_piece(piece) + "\n")
+        .map(|piece| answer_piece(&mut station, piece) + "\n")
         .collect()
 }
 
-fn answer_piece(piece: Piece) -> String {
+fn answer_piece(station: &mut Station, piece: Piece) -> String {
     match piece {
-        Piece::Whole(request) => answer_request(request),
+        Piece::Whole(request) => answer_request(station, request),
         Piece::Short(count) => format!("short {count}"),
     }
 }
 
-fn answer_request(request: Request) -> String {
-    match call(request) {
+fn answer_request(station: &mut Station, request: Request) -> String {
+    match call(station, request) {
         Some(Ok(line)) => line,
         Some(Err(refusal)) => refusal.to_string(),
         None => format!("bad {}", request.op),
@@ -33,7 +35,7 @@ fn answer_request(request: Request) -> String {
 }
 
 /// None where there is no such op, or no such payload for it.
-fn call(request: Request) -> Option<Answer> {
+fn call(station: &mut Station, request: Request) -> Option<Answer> {
     let payload = request.payload;
     match request.op {
         request::FROM_RELATIVE => strings::from_relative(payload),
@@ -41,6 +43,13 @@ fn call(request: Request) -> Option<Answer> {
         request::CHECK => strings::check(payload),
         request::READ => words::read(payload),
         request::WRITE => words::write(payload),
+        request::OFFER => station::offer(station, payload),
+        request::RESET => station::reset(station, payload),
+        request::IMMEDIATE => station::immediate(station, payload),
+        request::ENTRY => station::entry(station, payload),
+        request::TALLIES => station::tallies(station, payload),
+        request::HEALTH => station::health(station, payload),
+        request::FRESH => station::fresh(station, payload),
         _ => None,
     }
 }
@@ -53,15 +62,12 @@ fn require_room(room: u8) -> Result<(), Refusal> {
     }
 }
 
-/// 0 where nothing was repaired.
-fn repaired_bit(verdict: Verdict) -> usize {
-    match verdict {
-        Verdict::Clean => 0,
-        Verdict::Repaired { bit } => bit,
-    }
-}
-
 fn hex(string: &NavString) -> String {
     let bytes = string.to_bytes();
     bytes.iter().map(|byte| format!("{byte:02x}")).collect()
+}
+
+fn in_decimal(values: &[i64]) -> String {
+    let values: Vec<String> = values.iter().map(i64::to_string).collect();
+    values.join(" ")
 }

@@ -1,23 +1,18 @@
 //! The reader and the encoder: orders of refusals, records there and back.
 
+use second::alter::{with_code, with_m};
 use second::hamming::encode;
 use second::known::{a, A};
 use second::random::SplitMix64;
 use second::refusal::Refusal;
-use second::string::{NavString, IDLE_BIT, STRING_NUMBER};
+use second::string::{NavString, IDLE_BIT};
 use second::words::kinds::{
-    Kind, EVEN, FRAME_5_STRING_14, KINDS, ODD, STRING_1, STRING_2, STRING_5,
+    Kind, EVEN, FRAME_5_STRING_14, H, KINDS, ODD, STRING_1, STRING_2, STRING_5,
 };
 use second::words::{read, word::Form, write};
 
 fn read_string(kind: &Kind, string: &NavString) -> Result<(usize, Vec<i64>), Refusal> {
     read(kind, &string.to_bytes())
-}
-
-fn with_m(string: &NavString, m: u128) -> NavString {
-    let mut string = *string;
-    string.set_number(STRING_NUMBER, m);
-    encode(&string)
 }
 
 fn range<T>(place: usize) -> Result<T, Refusal> {
@@ -128,7 +123,7 @@ fn each_kind_takes_its_own_m() {
         let (string, values) = (random.string_of(kind), random.legal_values(kind));
         for m in 1..=15 {
             let own = kind.strings.contains(&m);
-            let answer = read_string(kind, &with_m(&string, m as u128));
+            let answer = read_string(kind, &with_m(&string, m));
             assert_eq!(answer.is_ok(), own, "{} {m}", kind.name);
             assert_eq!(write(kind, m, &values).is_ok(), own, "{} {m}", kind.name);
         }
@@ -177,9 +172,8 @@ fn range_of_read_words_names_the_top_bit() {
         assert_eq!(read_string(kind, &zero_data), range(place));
     }
     for code in [14, 24] {
-        let mut string = NavString::zero();
-        string.set_number((14, 10), code);
-        assert_eq!(read_string(&ODD, &with_m(&string, 7)), range(14));
+        let string = with_code(&with_m(&NavString::zero(), 7), &H, code);
+        assert_eq!(read_string(&ODD, &string), range(14));
     }
 }
 

@@ -3,13 +3,8 @@
 use second::hamming::{check, encode, Verdict};
 use second::known::received_frame;
 use second::relative::{from_relative, to_relative};
-use second::words::kinds::{kinds_of, Kind};
+use second::words::kinds::kind_of;
 use second::words::{read, read_words, word::time_of_day, write};
-
-/// An almanac string where string 14 is concerned: the frame is not the fifth.
-fn kind_of(m: usize) -> &'static Kind {
-    kinds_of(m).next().unwrap()
-}
 
 fn values(m: usize) -> Vec<i64> {
     read_words(kind_of(m), &received_frame()[m - 1]).unwrap()

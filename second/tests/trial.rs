@@ -1,7 +1,11 @@
 //! `trial`'s lines: framing, payloads, the order of refusals, the made input.
 
-use second::known::{A, B, B_INVERTED};
-use second::request::{append, values_to_bytes, CHECK, FROM_RELATIVE, READ, TO_RELATIVE, WRITE};
+use second::known::{received_frame, A, B, B_INVERTED};
+use second::relative::to_relative;
+use second::request::{
+    append, pieces, values_to_bytes, Piece, CHECK, ENTRY, FRESH, FROM_RELATIVE, HEALTH, IMMEDIATE,
+    OFFER, READ, RESET, TALLIES, TO_RELATIVE, WRITE,
+};
 use second::{make, trial};
 
 const A_HEX: &str = "0800000000000000000680";
@@ -125,6 +129,115 @@ fn values_that_are_not_one_for_each_word_are_bad() {
     }
 }
 
+/// An input of several requests, answered by one station.
+fn answers(requests: &[(u8, Vec<u8>)]) -> Vec<String> {
+    let mut input = Vec::new();
+    for (op, payload) in requests {
+        append(&mut input, *op, payload);
+    }
+    let lines = trial::answer_input(&input);
+    lines.lines().map(String::from).collect()
+}
+
+fn offer_b(channel: u8, epoch: u8) -> (u8, Vec<u8>) {
+    (OFFER, [&[channel, 0, 0, 0, epoch], &B[..]].concat())
+}
+
+/// The received frame on channel 3, from epoch 100 on.
+fn offers_of_received_frame() -> Vec<(u8, Vec<u8>)> {
+    let offer = |(string, epoch)| {
+        let symbols = to_relative(&string).unwrap().to_bytes();
+        (OFFER, [&[3, 0, 0, 0, epoch], &symbols[..]].concat())
+    };
+    received_frame().into_iter().zip(100..).map(offer).collect()
+}
+
+#[test]
+fn an_offer_prints_m_repaired_bit_and_news() {
+    let lines = answers(&offers_of_received_frame());
+    let expected = (1..=15).map(|m| match m {
+        4 => String::from("taken 4 0 2"),
+        _ => format!("taken {m} 0 1"),
+    });
+    assert_eq!(lines, expected.collect::<Vec<_>>());
+    let wrong = [
+        offer_b(0, 100),
+        offer_b(0, 100),
+        offer_b(0, 99),
+        offer_b(24, 100),
+    ];
+    assert_eq!(
+        answers(&wrong),
+        ["taken 1 0 1", "taken 1 0 0", "no 7", "no 1"]
+    );
+}
+
+#[test]
+fn queries_tell_of_the_received_frame() {
+    let mut requests = offers_of_received_frame();
+    let queries = [(IMMEDIATE, 3), (ENTRY, 16), (TALLIES, 3), (HEALTH, 3)];
+    requests.extend(queries.map(|(op, which)| (op, vec![which])));
+    let expected = [
+        "ok 0 1865 -1524643 0 29953275 0 1 59 2380845 1 -14498293 1 0 3 0 2002605 -2 40188871 \
+         -29136 8 0 1 3 104 11 1",
+        "ok 7409 b082059c4415530a7e 07a33d2bbf4bfeca5f",
+        "ok 15 15 0 0",
+        "ok 0",
+    ];
+    assert_eq!(answers(&requests)[15..], expected);
+}
+
+#[test]
+fn a_reset_and_a_fresh_station_print_ok() {
+    let requests = [
+        offer_b(0, 100),
+        (TALLIES, vec![0]),
+        (RESET, vec![0]),
+        (TALLIES, vec![0]),
+        offer_b(0, 50),
+        (FRESH, vec![]),
+        (TALLIES, vec![0]),
+        (RESET, vec![24]),
+    ];
+    let counted = "ok 1 1 0 0";
+    let empty = "ok 0 0 0 0";
+    let taken = "taken 1 0 1";
+    assert_eq!(
+        answers(&requests),
+        [taken, counted, "ok", empty, taken, "ok", empty, "no 1"]
+    );
+}
+
+#[test]
+fn queries_of_nothing_and_nowhere() {
+    for (op, which, line) in [
+        (IMMEDIATE, 0, "no 13\n"),
+        (IMMEDIATE, 24, "no 1\n"),
+        (ENTRY, 1, "no 13\n"),
+        (ENTRY, 0, "no 14\n"),
+        (ENTRY, 25, "no 14\n"),
+        (TALLIES, 24, "no 1\n"),
+        (HEALTH, 0, "ok 0\n"),
+        (HEALTH, 24, "no 1\n"),
+    ] {
+        assert_eq!(answer_payload(op, &[which]), line);
+    }
+}
+
+#[test]
+fn payloads_of_the_station_have_their_lengths() {
+    for length in 0..5 {
+        assert_eq!(answer_payload(OFFER, &vec![0; length]), "bad 6\n");
+    }
+    assert_eq!(answer_payload(OFFER, &[0; 5]), "no 2\n");
+    for op in [RESET, IMMEDIATE, ENTRY, TALLIES, HEALTH] {
+        for payload in [&[][..], &[1, 0]] {
+            assert_eq!(answer_payload(op, payload), format!("bad {op}\n"));
+        }
+    }
+    assert_eq!(answer_payload(FRESH, &[0]), "bad 12\n");
+}
+
 #[test]
 fn unknown_ops_and_empty_payloads_are_bad() {
     let input = [1, 0, 0, 2, 0, 0, 3, 0, 0, 4, 0, 0, 0, 0, 1, 11, 255, 0, 0];
@@ -154,9 +267,56 @@ fn the_made_input_follows_from_its_seed() {
 fn the_made_input_draws_every_kind_of_line() {
     let lines = trial::answer_input(&make::trial_input(7));
     for kind in [
-        "ok 0 ", "ok 85 ", "no 2", "no 3", "no 4", "no 5", "no 10 ", "no 11", "no 12", "bad 0",
-        "bad 4", "bad 5", "short 10",
+        "ok 0 ", "ok 85 ", "no 1", "no 2", "no 3", "no 4", "no 5", "no 6", "no 7", "no 8", "no 9",
+        "no 10 76", "no 11", "no 12", "no 13", "no 14", "taken 1 ", "bad 0", "bad 4", "bad 5",
+        "bad 6", "bad 12", "short 10",
     ] {
         assert!(lines.lines().any(|line| line.starts_with(kind)), "{kind}");
+    }
+}
+
+#[test]
+fn the_made_input_has_at_least_20_000_requests() {
+    let lines = trial::answer_input(&make::trial_input(3));
+    assert!(lines.lines().count() >= 20_000);
+}
+
+#[test]
+fn the_input_for_words_asks_no_station() {
+    let input = make::words_input(3);
+    let ops: Vec<u8> = pieces(&input)
+        .filter_map(|piece| match piece {
+            Piece::Whole(request) => Some(request.op),
+            Piece::Short(_) => None,
+        })
+        .collect();
+    assert!((FROM_RELATIVE..=WRITE).all(|op| ops.contains(&op)));
+    assert!(!ops.iter().any(|op| (OFFER..=FRESH).contains(op)));
+}
+
+#[test]
+fn the_input_for_tallies_reaches_the_limit_on_each() {
+    let lines = trial::answer_input(&make::tallies_input());
+    for line in [
+        "ok 65535 65535 0 0",
+        "ok 65535 0 65535 0",
+        "ok 65535 0 0 65535",
+        "ok 65535 21847 21846 21846",
+    ] {
+        assert!(lines.lines().any(|other| other == line), "{line}");
+    }
+}
+
+#[test]
+fn the_sample_fills_the_book() {
+    let lines = trial::answer_input(&make::sample_for_trial());
+    let lines: Vec<&str> = lines.lines().collect();
+    let book = &lines[lines.len() - 24..];
+    for (slot, line) in (1..).zip(book) {
+        let day = match slot {
+            16..=20 => "ok 7409 ",
+            _ => "ok 7408 ",
+        };
+        assert!(line.starts_with(day), "slot {slot}: {line}");
     }
 }

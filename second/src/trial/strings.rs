@@ -3,7 +3,7 @@
 //! The payload's first byte is the room, the output's length; the string is the
 //! rest, of any length.
 
-use super::{hex, repaired_bit, require_room, Answer};
+use super::{hex, require_room, Answer};
 use crate::hamming;
 use crate::refusal::Refusal;
 use crate::relative;
@@ -29,7 +29,8 @@ pub fn to_relative(payload: &[u8]) -> Option<Answer> {
 pub fn check(payload: &[u8]) -> Option<Answer> {
     with_room(payload, |string| {
         let (verdict, repaired) = hamming::check(&string)?;
-        Ok(format!("ok {} {}", repaired_bit(verdict), hex(&repaired)))
+        let bit = verdict.repaired_bit();
+        Ok(format!("ok {bit} {}", hex(&repaired)))
     })
 }
 

@@ -1,6 +1,6 @@
 //! Requests 4 and 5: the reader and the encoder.
 
-use super::{hex, require_room, Answer};
+use super::{hex, in_decimal, require_room, Answer};
 use crate::request::{kind_numbered, values_from_bytes, BYTES_OF_A_VALUE};
 use crate::words::{self, kinds::Kind};
 
@@ -26,9 +26,4 @@ fn write_in_room(room: u8, kind: &Kind, m: u8, values: &[i64]) -> Answer {
     require_room(room)?;
     let string = words::write(kind, usize::from(m), values)?;
     Ok(format!("ok {}", hex(&string)))
-}
-
-pub fn in_decimal(values: &[i64]) -> String {
-    let values: Vec<String> = values.iter().map(i64::to_string).collect();
-    values.join(" ")
 }

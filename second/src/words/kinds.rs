@@ -188,6 +188,11 @@ pub static KINDS: [&Kind; 8] = [
     &FRAME_5_STRING_14,
 ];
 
+/// The kind of string m, 1 to 15; string 14 is taken for an even one.
+pub fn kind_of(m: usize) -> &'static Kind {
+    kinds_of(m).next().expect("every m has its kind")
+}
+
 /// The kinds that string m can be of: one, but for string 14 two, even first.
 pub fn kinds_of(m: usize) -> impl Iterator<Item = &'static Kind> {
     let has_m = move |kind: &&Kind| kind.strings.contains(&m);

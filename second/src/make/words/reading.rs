@@ -1,7 +1,8 @@
 //! Requests to the reader.
 
 use super::super::{Input, WRONG_LENGTHS};
-use super::{codes_out_of_range, minus_zero, with_m, with_number, WRONG_KINDS};
+use super::WRONG_KINDS;
+use crate::alter::{codes_out_of_range, minus_zero, with_bit_inverted, with_code, with_m};
 use crate::hamming;
 use crate::known;
 use crate::request::{self, READ};
@@ -73,7 +74,7 @@ impl Input {
             for word in kind.words {
                 for code in codes_to_read(word) {
                     let string = self.random.string_of(kind);
-                    self.read(kind, &with_number(&string, word.bits, code));
+                    self.read(kind, &with_code(&string, word, code));
                 }
             }
         }
@@ -86,7 +87,7 @@ impl Input {
         let known_time = time_of_day(13, 37, 1);
         for code in hours.chain(minutes).chain([known_time]) {
             let string = self.random.string_of(&STRING_1);
-            self.read(&STRING_1, &with_number(&string, TK.bits, code as u128));
+            self.read(&STRING_1, &with_code(&string, &TK, code as u128));
         }
     }
 
@@ -96,8 +97,8 @@ impl Input {
             let mut all = self.random.string_of(kind);
             for word in kind.signed_words() {
                 let string = self.random.string_of(kind);
-                self.read(kind, &with_number(&string, word.bits, minus_zero(word)));
-                all = with_number(&all, word.bits, minus_zero(word));
+                self.read(kind, &with_code(&string, word, minus_zero(word)));
+                all = with_code(&all, word, minus_zero(word));
             }
             self.read(kind, &all);
         }
@@ -109,8 +110,8 @@ impl Input {
             let mut all = self.random.string_of(kind);
             for bit in kind.reserved_bits() {
                 let string = self.random.string_of(kind);
-                self.read(kind, &with_number(&string, (bit, bit), 1));
-                all = with_number(&all, (bit, bit), 1);
+                self.read(kind, &with_bit_inverted(&string, bit));
+                all = with_bit_inverted(&all, bit);
             }
             self.read(kind, &all);
         }
@@ -157,7 +158,7 @@ impl Input {
     fn out_of_range(&mut self, kind: &Kind, word: &Word) -> NavString {
         let string = self.random.string_of(kind);
         let code = self.random.one_of(&codes_out_of_range(word));
-        with_number(&string, word.bits, code)
+        with_code(&string, word, code)
     }
 
     fn read_misshapen_strings(&mut self) {

@@ -1,7 +1,8 @@
 //! Requests to the encoder.
 
 use super::super::{Input, RIGHT_ROOM, WRONG_ROOMS};
-use super::{minus_zero, with_number, WRONG_KINDS};
+use super::WRONG_KINDS;
+use crate::alter::{minus_zero, with_code};
 use crate::known;
 use crate::request::{self, WRITE};
 use crate::string::NavString;
@@ -71,7 +72,7 @@ impl Input {
                 for bit in kind.reserved_bits() {
                     string.set(bit, true);
                 }
-                self.write_back(kind, &with_number(&string, word.bits, minus_zero(word)));
+                self.write_back(kind, &with_code(&string, word, minus_zero(word)));
             }
         }
     }

@@ -1,0 +1,89 @@
+//! The listing: 16-byte records in, one line for each.
+
+use std::io::{self, Read, Write};
+
+use crate::refusal::Refusal;
+use crate::station::reception::receive;
+use crate::station::row::Taken;
+use crate::station::Station;
+use crate::string::BYTES;
+
+/// "Channel, epoch big-endian in four bytes, relative string."
+pub const RECORD_BYTES: usize = 1 + 4 + BYTES;
+
+#[derive(Clone, Copy, Debug, PartialEq, Eq)]
+pub struct Record {
+    pub channel: u8,
+    pub epoch: u32,
+    pub symbols: [u8; BYTES],
+}
+
+impl Record {
+    pub fn from_bytes(bytes: &[u8; RECORD_BYTES]) -> Record {
+        let [channel, e0, e1, e2, e3, symbols @ ..] = *bytes;
+        Record {
+            channel,
+            epoch: u32::from_be_bytes([e0, e1, e2, e3]),
+            symbols,
+        }
+    }
+
+    pub fn to_bytes(&self) -> Vec<u8> {
+        let head = [self.channel];
+        [&head[..], &self.epoch.to_be_bytes(), &self.symbols].concat()
+    }
+}
+
+/// Offers each record to a fresh station and prints its line. Only one record is
+/// held at a time.
+pub fn answer_stream(mut input: impl Read, mut output: impl Write) -> io::Result<()> {
+    let mut station = Station::default();
+    let mut bytes = Vec::with_capacity(RECORD_BYTES);
+    loop {
+        bytes.clear();
+        let one_record = RECORD_BYTES as u64;
+        match input.by_ref().take(one_record).read_to_end(&mut bytes)? {
+            0 => return output.flush(),
+            _ => writeln!(output, "{}", line(&mut station, &bytes))?,
+        }
+    }
+}
+
+/// "Bytes left over print `short` and their count."
+fn line(station: &mut Station, bytes: &[u8]) -> String {
+    match bytes.try_into() {
+        Ok(record) => line_of_record(station, Record::from_bytes(record)),
+        Err(_) => format!("short {}", bytes.len()),
+    }
+}
+
+/// "Channel, epoch, number (0 if taken), repaired bit (0 if none or number 1..4),
+/// m (0 for 1..5)."
+fn line_of_record(station: &mut Station, record: Record) -> String {
+    let Record {
+        channel,
+        epoch,
+        symbols,
+    } = record;
+    let answer = station.offer(usize::from(channel), epoch, &symbols);
+    let (number, bit, m) = match answer {
+        Ok(Taken { m, verdict, .. }) => (0, verdict.repaired_bit(), m),
+        Err(refusal) => {
+            let (bit, m) = seen_in_refused(refusal, &symbols);
+            (refusal.number(), bit, m)
+        }
+    };
+    format!("{channel} {epoch} {number} {bit} {m}")
+}
+
+/// The repaired bit and m of a refused string, as far as the refusal came after
+/// them.
+fn seen_in_refused(refusal: Refusal, symbols: &[u8]) -> (usize, usize) {
+    if refusal == Refusal::Channel {
+        return (0, 0);
+    }
+    match receive(symbols) {
+        Ok((verdict, string)) => (verdict.repaired_bit(), string.m()),
+        Err(_) => (0, 0),
+    }
+}

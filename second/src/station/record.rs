@@ -1,0 +1,45 @@
+//! The immediate record: strings 1 to 4 of one frame.
+
+use super::frame::Frame;
+use crate::refusal::Refusal;
+use crate::string::NavString;
+use crate::words::kinds::{Kind, B, SATELLITE, STRING_1, STRING_2, STRING_3, STRING_4};
+use crate::words::read_words;
+
+/// The string numbers that a record is made of.
+pub const STRINGS_OF_A_RECORD: [usize; 4] = [1, 2, 3, 4];
+
+static KINDS_OF_A_RECORD: [&Kind; 4] = [&STRING_1, &STRING_2, &STRING_3, &STRING_4];
+
+/// "The user navigation equipment analyzes the only one MSB of this word."
+const TOP_BIT_OF_B: i64 = 0b100;
+
+#[derive(Clone, Debug, PartialEq, Eq)]
+pub struct ImmediateRecord {
+    /// The words of the four strings in the paper's order, 26 in all.
+    pub words: Vec<i64>,
+    /// n, the satellite that sends.
+    pub satellite: usize,
+    /// "The top bit of B."
+    pub malfunction: bool,
+}
+
+/// The strings of a record, once a frame has all four.
+pub fn strings_of_record(frame: &Frame) -> Option<[NavString; 4]> {
+    let [first, second, third, fourth] = STRINGS_OF_A_RECORD.map(|m| frame.string(m).copied());
+    Some([first?, second?, third?, fourth?])
+}
+
+/// RANGE where tk or tb is out of range.
+pub fn read_record(strings: &[NavString; 4]) -> Result<ImmediateRecord, Refusal> {
+    let mut words = Vec::new();
+    for (kind, string) in KINDS_OF_A_RECORD.iter().zip(strings) {
+        words.extend(read_words(kind, string)?);
+    }
+    let [_, second, _, fourth] = strings;
+    Ok(ImmediateRecord {
+        words,
+        satellite: SATELLITE.read(fourth)? as usize,
+        malfunction: B.read(second)? & TOP_BIT_OF_B != 0,
+    })
+}

@@ -1,0 +1,86 @@
+//! Requests 6 to 12: the station's calls.
+
+use super::{in_decimal, Answer};
+use crate::station::row::News;
+use crate::station::{Health, Station};
+
+/// Payload: channel, epoch in four bytes, then the string in relative form, of any
+/// length.
+pub fn offer(station: &mut Station, payload: &[u8]) -> Option<Answer> {
+    let (&[channel, e0, e1, e2, e3], symbols) = payload.split_first_chunk()?;
+    let epoch = u32::from_be_bytes([e0, e1, e2, e3]);
+    let answer = station.offer(usize::from(channel), epoch, symbols);
+    Some(answer.map(|taken| {
+        let bit = taken.verdict.repaired_bit();
+        format!("taken {} {bit} {}", taken.m, news_number(taken.news))
+    }))
+}
+
+fn news_number(news: News) -> u8 {
+    match news {
+        News::AlreadyHeld => 0,
+        News::Kept => 1,
+        News::RecordBuilt => 2,
+        News::RecordOutOfRange => 3,
+    }
+}
+
+pub fn reset(station: &mut Station, payload: &[u8]) -> Option<Answer> {
+    let channel = only_byte(payload)?;
+    let answer = station.reset(channel);
+    Some(answer.map(|()| String::from("ok")))
+}
+
+/// The 26 words of strings 1 to 4.
+pub fn immediate(station: &Station, payload: &[u8]) -> Option<Answer> {
+    let answer = station.immediate(only_byte(payload)?);
+    Some(answer.map(|record| format!("ok {}", in_decimal(&record.words))))
+}
+
+/// Bits 80..9 and bits 80..10, each as a number of 18 hex digits.
+pub fn entry(station: &Station, payload: &[u8]) -> Option<Answer> {
+    let answer = station.entry(only_byte(payload)?);
+    Some(answer.map(|entry| format!("ok {} {:018x} {:018x}", entry.day, entry.even, entry.odd)))
+}
+
+pub fn tallies(station: &Station, payload: &[u8]) -> Option<Answer> {
+    let answer = station.tallies(only_byte(payload)?);
+    Some(answer.map(|tallies| {
+        let counts = [
+            tallies.offered,
+            tallies.clean,
+            tallies.repaired,
+            tallies.refused,
+        ];
+        format!("ok {}", in_decimal(&counts.map(i64::from)))
+    }))
+}
+
+pub fn health(station: &Station, payload: &[u8]) -> Option<Answer> {
+    let answer = station.health(only_byte(payload)?);
+    Some(answer.map(|health| format!("ok {}", health_number(health))))
+}
+
+fn health_number(health: Health) -> u8 {
+    match health {
+        Health::Unknown => 0,
+        Health::Usable => 1,
+        Health::NotUsable => 2,
+    }
+}
+
+pub fn fresh(station: &mut Station, payload: &[u8]) -> Option<Answer> {
+    if !payload.is_empty() {
+        return None;
+    }
+    *station = Station::default();
+    Some(Ok(String::from("ok")))
+}
+
+/// A channel or a slot, and nothing after it.
+fn only_byte(payload: &[u8]) -> Option<usize> {
+    match payload {
+        &[byte] => Some(usize::from(byte)),
+        _ => None,
+    }
+}

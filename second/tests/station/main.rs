@@ -1,0 +1,12 @@
+//! The station: frames, record, book, health, tallies, and the listing over it.
+
+mod book;
+mod exchange;
+mod frames;
+mod health;
+mod listing;
+mod record;
+mod refusals;
+mod relock;
+mod strings;
+mod tallies;

@@ -1,0 +1,114 @@
+//! The order of tests, and what a refusal leaves behind.
+
+use second::known::FLIPS_TAKEN_FOR_BIT_85;
+use second::refusal::Refusal;
+use second::relative::to_relative;
+use second::station::Station;
+use second::string::NavString;
+
+use crate::strings::*;
+
+fn held() -> Station {
+    let mut station = Station::default();
+    take_all(&mut station, 0, 1000, &[string_1(1)]);
+    station
+}
+
+fn padded(string: &NavString) -> Vec<u8> {
+    let mut bytes = to_relative(string).unwrap().to_bytes().to_vec();
+    bytes[10] |= 1;
+    bytes
+}
+
+/// Each offer has one wrong less than the one before.
+#[test]
+fn an_offer_is_refused_in_the_order_1_to_9() {
+    let mut station = held();
+    let no_number = with_m(&string_1(2), 0);
+    let damaged = no_number.flipped(&[9, 10]);
+    let idle = no_number.flipped(&FLIPS_TAKEN_FOR_BIT_85);
+    assert_eq!(
+        station.offer(24, 0, &padded(&damaged)),
+        Err(Refusal::Channel)
+    );
+    assert_eq!(station.offer(0, 0, &padded(&damaged)), Err(Refusal::Shape));
+    let mut number_of = |epoch, string: &NavString| {
+        let answer = offer(&mut station, 0, epoch, string);
+        answer.map_or_else(|refusal| refusal.number(), |_| 0)
+    };
+    assert_eq!(number_of(0, &damaged), 3);
+    assert_eq!(number_of(0, &idle), 4);
+    assert_eq!(number_of(0, &no_number), 5);
+    assert_eq!(number_of(0, &string_3()), 6);
+    assert_eq!(number_of(2, &string_3()), 7);
+    assert_eq!(number_of(1001, &string_1(2)), 8);
+    assert_eq!(number_of(1000, &string_1(2)), 9);
+    assert_eq!(number_of(1015, &string_1(2)), 0);
+}
+
+#[test]
+fn wrong_lengths_are_shape() {
+    for length in (0..30).filter(|&length| length != 11) {
+        let answer = held().offer(0, 1000, &vec![0; length]);
+        assert_eq!(answer, Err(Refusal::Shape));
+    }
+}
+
+#[test]
+fn eleven_zero_bytes_have_no_number() {
+    for symbols in [[0; 11], zero_symbols_inverted()] {
+        assert_eq!(held().offer(0, 1000, &symbols), Err(Refusal::Number));
+    }
+}
+
+fn zero_symbols_inverted() -> [u8; 11] {
+    NavString::zero().inverted().to_bytes()
+}
+
+#[test]
+fn a_refused_string_changes_nothing_but_tallies() {
+    let refused = [
+        (1000, string_1(2)),
+        (1000, string_1(1).flipped(&[8])),
+        (1007, string_1(1)),
+        (900, string_1(1)),
+        (1, string_3()),
+        (1000, with_m(&string_1(1), 0)),
+    ];
+    for (epoch, string) in refused {
+        let mut station = held();
+        assert!(offer(&mut station, 0, epoch, &string).is_err());
+        assert_eq!(station.tallies(0).unwrap().refused, 1);
+        // What stays is told by what is taken next.
+        assert!(offer_in_frame(&mut station, 0, 1000, &string_1(1)).is_ok());
+        assert!(offer_in_frame(&mut station, 0, 1000, &string_3()).is_ok());
+        assert_eq!(
+            offer(&mut station, 0, 1014, &string_1(1)),
+            Err(Refusal::OffBeat)
+        );
+    }
+}
+
+#[test]
+fn calls_on_a_wrong_channel_are_refused() {
+    let mut station = held();
+    let before = station.clone();
+    for channel in [24, 25, 127, 255] {
+        assert_eq!(station.reset(channel), Err(Refusal::Channel));
+        assert_eq!(station.immediate(channel), Err(Refusal::Channel));
+        assert_eq!(station.tallies(channel), Err(Refusal::Channel));
+        assert_eq!(station.health(channel), Err(Refusal::Channel));
+    }
+    assert_eq!(station, before);
+}
+
+#[test]
+fn a_wrong_slot_comes_before_nothing() {
+    let station = Station::default();
+    for slot in [0, 25, 26, 255] {
+        assert_eq!(station.entry(slot), Err(Refusal::Slot));
+    }
+    for slot in 1..=24 {
+        assert_eq!(station.entry(slot), Err(Refusal::Nothing));
+    }
+}
