@@ -1,4 +1,4 @@
--- A channel's tallies (the paper, "Numbers that say no"): "the true counts since the channel's reset".
+-- A channel's tallies (the paper, demand 2 and "Numbers that say no"): "the true counts since the channel's reset".
 -- Assumes nothing.
 use Prim.Native.Nat.{ℕ, _+_, min}
 use mathlib.Core.Bool.{Bool, true, false}
