@@ -1,2 +1,9 @@
 pub mod Tallies
+pub mod Frame
+pub mod Row
+pub mod Offers
+pub mod Shows
+pub mod History
+pub mod Relock
+pub mod Witness
 pub mod Known

@@ -50,7 +50,7 @@ refusalOf l =
     (pick (eqb n 12) Room (pick (eqb n 13) Nothing Slot))))))))))))
 
 -- and its number is not 0
-refusal-known : (r : Refusal) → (refusalOf (refusalPaper r) ≡ r) × (eqb (getD (refusalPaper r) 0 0) 0 ≡ false)
+pub refusal-known : (r : Refusal) → (refusalOf (refusalPaper r) ≡ r) × (eqb (getD (refusalPaper r) 0 0) 0 ≡ false)
 refusal-known Channel = (refl, refl)
 refusal-known Shape = (refl, refl)
 refusal-known Damaged = (refl, refl)

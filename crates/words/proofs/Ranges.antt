@@ -183,11 +183,11 @@ said w f m t raw h = same _ _ (below-at m (λ raw. Bool·beq (inRange w (valueIn
     same false false t = refl
 
 -- the hour and the minute in tk
-hour : (n : ℕ) → wordOf n 76 65 / 128 ≡ wordOf n 76 72
+pub hour : (n : ℕ) → wordOf n 76 65 / 128 ≡ wordOf n 76 72
 unfolding wordOf
 hour n = omega arith
 
-minute : (n : ℕ) → wordOf n 76 65 / 2 % 64 ≡ wordOf n 71 66
+pub minute : (n : ℕ) → wordOf n 76 65 / 2 % 64 ≡ wordOf n 71 66
 unfolding wordOf
 minute n = omega arith
 

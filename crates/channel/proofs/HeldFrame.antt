@@ -1,0 +1,193 @@
+-- The frame that a row holds is the one that the calls determine (held-is), and so is each answer (said-is); a refused offer changes nothing but
+-- two tallies (refused-only). Of any bytes and any epochs.
+-- Assumes nothing.
+use mathlib.Core.Path.{_≡_, refl, sym, ap, subst, _∙_}
+use mathlib.Core.Bool.{Bool, true, false}
+use mathlib.Core.List.{List, _∷_}
+use Prim.Native.Nat.{ℕ, zero, suc, _^_, _≤_, _<_}
+use native.Mathlib.Omega.{arith}
+use borrow.Author.Tests.{eqb-true, eqb-false}
+use lib.Arith.{lt-of-le-ne}
+use lib.Dec.{eqb}
+use lib.ListN.{length, getD, drop, length-replicate}
+use lib.Seq.{length-sets}
+use Rattle.strings.specs.Pick.{pick}
+use Rattle.strings.specs.Number.{numberOf, misshapen, stringBytes}
+use Rattle.strings.specs.Hamming.{ruling, isDamaged}
+use Rattle.strings.specs.Numbers.{Test, test, firstOf, placeOf, saidBy, answerOf}
+use Rattle.strings.specs.Calls.{isIdle}
+use Rattle.strings.specs.declared.Verdict.{Verdict}
+use Rattle.strings.proofs.Answer.{refusal-known}
+use Rattle.strings.proofs.Judge.{mended-lt}
+use Rattle.strings.proofs.RelativeCode.{read-lt}
+use Rattle.words.specs.Calls.{numberIn}
+use Rattle.channel.specs.declared.News.{News}
+use Rattle.channel.specs.declared.News.the-variants.{AlreadyHeld, Kept, RecordBuilt, RecordOutOfRange}
+use Rattle.channel.specs.declared.Row.{Row}
+use Rattle.channel.specs.declared.Offered.{Offered}
+use Rattle.channel.specs.declared.Answer.{Answer}
+use Rattle.channel.specs.declared.Answer.the-variants.{Taken as TAKEN, Refused as REFUSED}
+use Rattle.channel.specs.Tallies.Outcome.{Refused, Taken}
+use Rattle.channel.specs.Frame.{Frame, withString, startOf, isOfFrame, isHere, frameFor, afterString, newsOf}
+use Rattle.channel.specs.Row.{frameOf, emptyRow, newFrame, rowFor, stored, recorded, counted}
+use Rattle.channel.specs.Offers.{answerPaper, isTaken, OnlyCounted, takenRow, verdictOf, plainOf, wholeOf, offerTests, Offers, offeredRow}
+use Rattle.channel.specs.History.{Call, frameAfter, heldAfter, saidTo, Runs, fresh, offering, resetting}
+use Rattle.channel.proofs.Frames.{stored-frame, empty-frame, row-for, counted-frame, recorded-frame}
+
+-- ---- the string of an offer
+pub whole-lt : (s : List ℕ) → wholeOf s < 2 ^ 85
+whole-lt s = mended-lt (plainOf s) (omega (arith, read-lt (numberOf s)))
+
+-- where none of the tests fits, the fourth does not
+past-number : (a b c d : Bool) (ts : List Test) → firstOf (test 2 a ∷ test 3 b ∷ test 4 c ∷ test 5 d ∷ ts) ≡ 0 → d ≡ false
+past-number true b c d ts e = let z : _≡_ {A = ℕ} 2 0 = e in absurd (omega arith)
+past-number false true c d ts e = let z : _≡_ {A = ℕ} 3 0 = e in absurd (omega arith)
+past-number false false true d ts e = let z : _≡_ {A = ℕ} 4 0 = e in absurd (omega arith)
+past-number false false false true ts e = let z : _≡_ {A = ℕ} 5 0 = e in absurd (omega arith)
+past-number false false false false ts e = refl
+
+-- a taken string has a number
+pub taken-numbered : (f : Frame) (epoch : ℕ) (s : List ℕ) → firstOf (offerTests f epoch s) ≡ 0 → 1 ≤ numberIn (wholeOf s)
+taken-numbered f epoch s e =
+    let n = numberIn (wholeOf s) in
+    let z : n ≡ 0 → ⊥ =
+    eqb-false n 0 (past-number (misshapen s) (isDamaged (ruling (plainOf s))) (isIdle (wholeOf s)) (eqb n 0) (drop 4 (offerTests f epoch s)) e)
+    in
+    lt-of-le-ne (omega arith) (λ q. z (sym q))
+
+-- ---- the row that a taken string leaves
+recorded-strings : (w : News) (row : Row) → recorded w row .strings ≡ row .strings
+unfolding recorded
+recorded-strings AlreadyHeld row = refl
+recorded-strings Kept row = refl
+recorded-strings RecordBuilt row = refl
+recorded-strings RecordOutOfRange row = refl
+
+-- fifteen strings stay fifteen
+pub for-long : (row : Row) (start : ℕ) → length (row .strings) ≡ 165 → length (rowFor row start .strings) ≡ 165
+unfolding newFrame
+for-long row start long = by (isOfFrame (frameOf row) start)
+  where
+    by : (t : Bool) → length (pick t row (newFrame row start) .strings) ≡ 165
+    by true = long
+    by false = length-replicate {A = ℕ} 165 0
+
+module _ (row : Row) (epoch n : ℕ) (v : Verdict) (long : length (row .strings) ≡ 165) where
+  taken-long : length (takenRow row epoch n v .strings) ≡ 165
+  unfolding takenRow counted stored
+  taken-long =
+      ap length (recorded-strings (newsOf (frameOf row) epoch n) (pick (isHere (frameOf row) epoch n) row (stored (rowFor row (startOf epoch n)) n)))
+      ∙ by (isHere (frameOf row) epoch n)
+    where
+      by : (t : Bool) → length (pick t row (stored (rowFor row (startOf epoch n)) n) .strings) ≡ 165
+      by true = long
+      by false = length-sets (rowFor row (startOf epoch n) .strings) _ (stringBytes n) ∙ for-long row (startOf epoch n) long
+
+  -- its frame is the frame with the string
+  taken-frame : n < 2 ^ 85 → 1 ≤ numberIn n → frameOf (takenRow row epoch n v) ≡ afterString (frameOf row) epoch n
+  unfolding takenRow
+  taken-frame small least =
+      let next = pick (isHere (frameOf row) epoch n) row (stored (rowFor row (startOf epoch n)) n) in
+      let w = newsOf (frameOf row) epoch n in
+      counted-frame (Taken v) (recorded w next) ∙ recorded-frame w next ∙ by (isHere (frameOf row) epoch n)
+    where
+      by : (t : Bool) → frameOf (pick t row (stored (rowFor row (startOf epoch n)) n))
+          ≡ pick t (frameOf row) (withString (frameFor (frameOf row) (startOf epoch n)) n)
+      by true = refl
+      by false =
+          stored-frame (rowFor row (startOf epoch n)) n (for-long row (startOf epoch n) long) small least ∙ ap (λ (f : Frame). withString f n) (row-for row (startOf epoch n))
+
+-- ---- the row that an offer leaves
+pub offered-is : (row : Row) (epoch : ℕ) (s : List ℕ) (r : Offered) → Offers row epoch s r → r .row ≡ offeredRow row epoch s
+unfolding Offers
+offered-is row epoch s r o = o .left
+
+pub said-by : (row : Row) (epoch : ℕ) (s : List ℕ) (r : Offered) → Offers row epoch s r → answerPaper (r .answer) ≡ saidTo (frameOf row) epoch s
+unfolding Offers
+said-by row epoch s r o = o .answer
+
+module _ (row : Row) (epoch : ℕ) (s : List ℕ) (long : length (row .strings) ≡ 165) where
+  pub offered-long : length (offeredRow row epoch s .strings) ≡ 165
+  unfolding counted
+  offered-long = by (eqb (firstOf (offerTests (frameOf row) epoch s)) 0)
+    where
+      by : (t : Bool) → length (pick t (takenRow row epoch (wholeOf s) (verdictOf (ruling (plainOf s)))) (counted Refused row) .strings) ≡ 165
+      by true = taken-long row epoch (wholeOf s) (verdictOf (ruling (plainOf s))) long
+      by false = long
+
+  -- THE ROW'S FRAME MOVES AS THE RULES SAY, from any row
+  pub frame-after : frameOf (offeredRow row epoch s) ≡ frameAfter (frameOf row) epoch s
+  frame-after = by (eqb (firstOf (offerTests (frameOf row) epoch s)) 0) refl
+    where
+      by : (t : Bool) → eqb (firstOf (offerTests (frameOf row) epoch s)) 0 ≡ t
+          → frameOf (pick t (takenRow row epoch (wholeOf s) (verdictOf (ruling (plainOf s)))) (counted Refused row))
+          ≡ pick t (afterString (frameOf row) epoch (wholeOf s)) (frameOf row)
+      by true e =
+          taken-frame row epoch (wholeOf s) (verdictOf (ruling (plainOf s))) long (whole-lt s)
+          (taken-numbered (frameOf row) epoch s (eqb-true (firstOf (offerTests (frameOf row) epoch s)) 0 e))
+      by false e = counted-frame Refused row
+
+-- ---- a refused offer
+-- an answer begins with the number of the first test that fits
+pub first-said : (ts : List Test) (told : List ℕ) → getD (answerOf ts told) 0 0 ≡ firstOf ts
+first-said ts told = by (firstOf ts)
+  where
+    by : (k : ℕ) → getD (saidBy k (placeOf ts) told) 0 0 ≡ k
+    by zero = refl
+    by (suc k) = refl
+
+-- a taken answer begins with 0, and no refusal does
+taken-said : (a : Answer) → eqb (getD (answerPaper a) 0 0) 0 ≡ isTaken a
+taken-said (TAKEN m v w) = refl
+taken-said (REFUSED q) = refusal-known q .1
+
+-- an offer is taken exactly where none of its tests fits
+pub taken-exactly : (row : Row) (epoch : ℕ) (s : List ℕ) (r : Offered) → Offers row epoch s r
+    → isTaken (r .answer) ≡ eqb (firstOf (offerTests (frameOf row) epoch s)) 0
+taken-exactly row epoch s r o =
+    sym (taken-said (r .answer))
+    ∙ ap (λ (k : ℕ). eqb k 0) (ap (λ (l : List ℕ). getD l 0 0) (said-by row epoch s r o) ∙ first-said (offerTests (frameOf row) epoch s) _)
+
+-- A REFUSED OFFER CHANGES NOTHING BUT TWO TALLIES, in any row
+pub refused-only : (row : Row) (epoch : ℕ) (s : List ℕ) (r : Offered) → Offers row epoch s r → isTaken (r .answer) ≡ false → OnlyCounted row (r .row)
+unfolding counted
+refused-only row epoch s r o n =
+    let e : r .row ≡ counted Refused row =
+    offered-is row epoch s r o
+    ∙ ap (λ (t : Bool). pick t (takenRow row epoch (wholeOf s) (verdictOf (ruling (plainOf s)))) (counted Refused row)) (sym (taken-exactly row epoch s r o) ∙ n)
+    in
+    subst (OnlyCounted row) (sym e) (record {
+      strings = refl;
+      start = refl;
+      present = refl;
+      immediate = refl;
+      offered = refl;
+      clean = refl;
+      repaired = refl;
+      refused = refl;
+    })
+
+-- ---- over a history
+empty-long : length (emptyRow .strings) ≡ 165
+unfolding emptyRow
+empty-long = length-replicate {A = ℕ} 165 0
+
+pub runs-long : (cs : List Call) (row : Row) → Runs cs row → length (row .strings) ≡ 165
+runs-long cs row fresh = empty-long
+runs-long cs row (offering epoch s ds before r run o) =
+    ap (λ (x : Row). length (x .strings)) (offered-is before epoch s r o) ∙ offered-long before epoch s (runs-long ds before run)
+runs-long cs row (resetting ds before run) = empty-long
+
+-- THE ROW'S FRAME IS THE HISTORY'S
+pub held-is : (cs : List Call) (row : Row) → Runs cs row → frameOf row ≡ heldAfter cs
+unfolding heldAfter
+held-is cs row fresh = empty-frame
+held-is cs row (offering epoch s ds before r run o) =
+    ap frameOf (offered-is before epoch s r o) ∙ frame-after before epoch s (runs-long ds before run)
+    ∙ ap (λ (f : Frame). frameAfter f epoch s) (held-is ds before run)
+held-is cs row (resetting ds before run) = empty-frame
+
+-- EACH ANSWER IS WHAT THE CALLS BEFORE IT DETERMINE
+pub said-is : (cs : List Call) (row : Row) (epoch : ℕ) (s : List ℕ) (r : Offered) → Runs cs row → Offers row epoch s r
+    → answerPaper (r .answer) ≡ saidTo (heldAfter cs) epoch s
+said-is cs row epoch s r run o = said-by row epoch s r o ∙ ap (λ (f : Frame). saidTo f epoch s) (held-is cs row run)

@@ -1,0 +1,252 @@
+-- The immediate record of a row is the history's (record-is): strings 1..4 of the latest held frame since the reset that had them present and in
+-- range. There is one exactly if some moment since the reset left such a frame (record-exactly).
+-- Assumes nothing.
+use mathlib.Core.Path.{_≡_, refl, sym, ap, ap₂, _∙_}
+use mathlib.Core.Bool.{Bool, true, false, _&&_, false≢true}
+use mathlib.Core.List.{List, [], _∷_}
+use mathlib.Core.Logic.{_↔_}
+use Prim.Native.Nat.{ℕ, _+_, _-_, _*_, _^_, _≤_, _<_}
+use native.Mathlib.Omega.{arith}
+use borrow.Author.Tests.{ne-eqb, leb-false, eqb-true}
+use lib.Dec.{eqb, leb, lit<}
+use lib.ListN.{length, take, drop}
+use lib.Seq.{take-add, drop-at, take-take, length-take-le, length-sets}
+use Rattle.strings.specs.Pick.{pick}
+use Rattle.strings.specs.Number.{numberOf, wordOf, stringBytes}
+use Rattle.strings.specs.Hamming.{ruling}
+use Rattle.strings.specs.Numbers.{firstOf}
+use Rattle.words.specs.Calls.{numberIn}
+use Rattle.words.specs.Layout.{layout}
+use Rattle.words.specs.Values.{valuesOf, firstBad}
+use Rattle.words.specs.Records.{stringAt}
+use Rattle.book.specs.Shows.{isGood}
+use Rattle.book.proofs.Good.{both}
+use Rattle.channel.specs.declared.News.the-variants.{AlreadyHeld, Kept, RecordBuilt, RecordOutOfRange}
+use Rattle.channel.specs.declared.Row.{Row}
+use Rattle.channel.specs.declared.Immediate.{Immediate}
+use Rattle.channel.specs.Tallies.Outcome.{Refused}
+use Rattle.channel.specs.Frame.{Frame, emptyFrame, withString, startOf, isOfFrame, isHere, frameFor, fourGood, isComplete, isReadable, newsAt}
+use Rattle.channel.specs.Row.{isPresent, frameOf, keptFour, hasRecord, recordOf, emptyRow, newFrame, rowFor, stored, recorded, counted}
+use Rattle.channel.specs.Offers.{takenRow, verdictOf, plainOf, wholeOf, offerTests, offeredRow}
+use Rattle.channel.specs.History.{Call, Offer, Reset, heldAfter, makesRecord, fourOf, recordAfter, LeftSince, now, before, SomeMoment, Runs, fresh, offering, resetting}
+use Rattle.channel.proofs.Frames.{stored-frame, row-for}
+use Rattle.channel.proofs.HeldFrame.{whole-lt, taken-numbered, for-long, offered-is, runs-long, held-is, frame-after}
+
+-- ---- four strings kept
+-- the first four strings are those of the first 44 bytes
+string-of-four : (l : List ℕ) (j : ℕ) → length l ≡ 165 → j < 4 → stringAt (take 44 l) j ≡ stringAt l j
+string-of-four l j long h =
+    let k = 11 * j in
+    let e : k + (44 - k) ≡ 44 = omega arith in
+    let t : length (take k l) ≡ k = length-take-le k l (omega arith) in
+    ap numberOf
+    (ap (λ (i : ℕ). take 11 (drop k (take i l))) (sym e) ∙ ap (λ (x : List ℕ). take 11 (drop k x)) (take-add k (44 - k) l)
+    ∙ ap (take 11) (drop-at (take k l) (take (44 - k) (drop k l)) k t) ∙ take-take 11 (44 - k) (drop k l) (omega arith))
+
+-- the texts of four strings that are present are the row's strings
+module _ (row : Row) (long : length (row .strings) ≡ 165) (c : isComplete (frameOf row) ≡ true) where
+  has-one : isPresent (row .present) 1 ≡ true
+  has-one = both (isPresent (row .present) 1) _ c .0
+
+  has-two : isPresent (row .present) 2 ≡ true
+  has-two = both (isPresent (row .present) 2) _ (both (isPresent (row .present) 1) _ c .1) .0
+
+  has-rest : (isPresent (row .present) 3 && isPresent (row .present) 4) ≡ true
+  has-rest = both (isPresent (row .present) 2) _ (both (isPresent (row .present) 1) _ c .1) .1
+
+  text-is : (j : ℕ) → j < 4 → isPresent (row .present) (j + 1) ≡ true → stringAt (take 44 (row .strings)) j ≡ frameOf row .text (j + 1)
+  text-is j h p =
+      let e : j + 1 - 1 ≡ j = omega arith in
+      string-of-four (row .strings) j long h ∙ rw p (ap (stringAt (row .strings)) (sym e))
+
+  -- a record built is the frame's four strings, and is held where they are in range
+  built-four : keptFour (record { strings = take 44 (row .strings) }) ≡ fourOf (frameOf row)
+  built-four =
+      let three = both (isPresent (row .present) 3) (isPresent (row .present) 4) has-rest in
+      ap₂ (λ (x y : ℕ). x ∷ y ∷ stringAt (take 44 (row .strings)) 2 ∷ stringAt (take 44 (row .strings)) 3 ∷ []) (text-is 0 (lit< tt) has-one) (text-is 1 (lit< tt) has-two)
+      ∙ ap₂ (λ (x y : ℕ). frameOf row .text 1 ∷ frameOf row .text 2 ∷ x ∷ y ∷ []) (text-is 2 (lit< tt) (three .0)) (text-is 3 (lit< tt) (three .1))
+
+  built-held : hasRecord (record { strings = take 44 (row .strings) }) ≡ isReadable (frameOf row)
+  unfolding hasRecord
+  built-held =
+      let three = both (isPresent (row .present) 3) (isPresent (row .present) 4) has-rest in
+      ap₂ (λ (x y : ℕ). fourGood x y (stringAt (take 44 (row .strings)) 2) (stringAt (take 44 (row .strings)) 3)) (text-is 0 (lit< tt) has-one) (text-is 1 (lit< tt) has-two)
+      ∙ ap₂ (λ (x y : ℕ). fourGood (frameOf row .text 1) (frameOf row .text 2) x y) (text-is 2 (lit< tt) (three .0)) (text-is 3 (lit< tt) (three .1))
+
+  pub built : isReadable (frameOf row) ≡ true → recordOf (record { strings = take 44 (row .strings) }) ≡ fourOf (frameOf row)
+  unfolding recordOf
+  built r = rw (built-held ∙ r) built-four
+
+-- ---- a string above 4 leaves strings 1..4 as they were
+module _ (g : Frame) (n : ℕ) (above : leb (numberIn n) 4 ≡ false) where
+  not-it : (k : ℕ) → k ≤ 4 → eqb k (numberIn n) ≡ false
+  not-it k h = let a : 4 < numberIn n = leb-false (numberIn n) 4 above in ne-eqb k (numberIn n) (λ e. omega arith)
+
+  later-makes : makesRecord (withString g n) ≡ makesRecord g
+  later-makes = rw (not-it 1 (omega arith), not-it 2 (omega arith), not-it 3 (omega arith), not-it 4 (omega arith))
+
+  later-four : fourOf (withString g n) ≡ fourOf g
+  later-four = rw (not-it 1 (omega arith), not-it 2 (omega arith), not-it 3 (omega arith), not-it 4 (omega arith))
+
+-- ---- one offer, to a row whose record is up to date
+abbrev UpToDate : Row → Type 0
+UpToDate row = makesRecord (frameOf row) ≡ true → recordOf (row .immediate) ≡ fourOf (frameOf row)
+
+-- what the record ought to be then
+abbrev nextRecord : Row → Frame → List ℕ
+nextRecord row f = pick (makesRecord f) (fourOf f) (recordOf (row .immediate))
+
+-- where the frame stays, so does the record
+same-record : (row : Row) → UpToDate row → recordOf (row .immediate) ≡ nextRecord row (frameOf row)
+same-record row u = by (makesRecord (frameOf row)) refl
+  where
+    by : (t : Bool) → makesRecord (frameOf row) ≡ t → recordOf (row .immediate) ≡ pick t (fourOf (frameOf row)) (recordOf (row .immediate))
+    by true e = u e
+    by false e = refl
+
+-- a string newly stored
+module _ (row : Row) (epoch n : ℕ) (long : length (row .strings) ≡ 165) (small : n < 2 ^ 85) (least : 1 ≤ numberIn n) (u : UpToDate row) where
+  -- the frame that it joins, and the frame with it
+  abbrev joined : Frame
+  joined = frameFor (frameOf row) (startOf epoch n)
+
+  abbrev whole : Frame
+  whole = withString joined n
+
+  -- the row with it
+  abbrev next : Row
+  next = stored (rowFor row (startOf epoch n)) n
+
+  next-frame : frameOf next ≡ whole
+  next-frame =
+      stored-frame (rowFor row (startOf epoch n)) n (for-long row (startOf epoch n) long) small least ∙ ap (λ (f : Frame). withString f n) (row-for row (startOf epoch n))
+
+  next-long : length (next .strings) ≡ 165
+  unfolding stored
+  next-long = length-sets (rowFor row (startOf epoch n) .strings) (11 * (numberIn n - 1)) (stringBytes n) ∙ for-long row (startOf epoch n) long
+
+  next-immediate : next .immediate ≡ row .immediate
+  unfolding stored newFrame
+  next-immediate = by (isOfFrame (frameOf row) (startOf epoch n))
+    where
+      by : (t : Bool) → pick t row (newFrame row (startOf epoch n)) .immediate ≡ row .immediate
+      by true = refl
+      by false = refl
+
+  -- where it is above 4 and the frame makes a record, it did so before
+  before-it : leb (numberIn n) 4 ≡ false → makesRecord whole ≡ true → recordOf (row .immediate) ≡ fourOf whole
+  before-it a m = by (isOfFrame (frameOf row) (startOf epoch n)) (sym (later-makes joined n a) ∙ m) ∙ sym (later-four joined n a)
+    where
+      by : (t : Bool) → makesRecord (pick t (frameOf row) (emptyFrame (startOf epoch n))) ≡ true
+          → recordOf (row .immediate) ≡ fourOf (pick t (frameOf row) (emptyFrame (startOf epoch n)))
+      by true e = u e
+      by false e = absurd (false≢true e)
+
+  new-record : recordOf (recorded (newsAt whole (numberIn n)) next .immediate) ≡ nextRecord row whole
+  unfolding recorded
+  new-record = by (leb (numberIn n) 4) (isComplete whole) (isReadable whole) refl refl refl
+    where
+      by : (l c r : Bool) → leb (numberIn n) 4 ≡ l → isComplete whole ≡ c → isReadable whole ≡ r
+          → recordOf (recorded (pick (l && c) (pick r RecordBuilt RecordOutOfRange) Kept) next .immediate)
+          ≡ pick (c && r) (fourOf whole) (recordOf (row .immediate))
+      by true true true a b c =
+          built next next-long (ap isComplete next-frame ∙ b) (ap isReadable next-frame ∙ c) ∙ ap fourOf next-frame
+      by true true false a b c = ap recordOf next-immediate
+      by true false r a b c = ap recordOf next-immediate
+      by false true true a b c = ap recordOf next-immediate ∙ before-it a (ap₂ _&&_ b c)
+      by false true false a b c = ap recordOf next-immediate
+      by false false r a b c = ap recordOf next-immediate
+
+-- any offer
+module _ (row : Row) (epoch : ℕ) (s : List ℕ) (long : length (row .strings) ≡ 165) (u : UpToDate row) where
+  taken-record : 1 ≤ numberIn (wholeOf s)
+      → recordOf (takenRow row epoch (wholeOf s) (verdictOf (ruling (plainOf s))) .immediate)
+      ≡ nextRecord row (pick (isHere (frameOf row) epoch (wholeOf s)) (frameOf row) (withString (frameFor (frameOf row) (startOf epoch (wholeOf s))) (wholeOf s)))
+  unfolding takenRow counted recorded
+  taken-record least = by (isHere (frameOf row) epoch (wholeOf s))
+    where
+      by : (t : Bool)
+          → recordOf (recorded (pick t AlreadyHeld (newsAt (withString (frameFor (frameOf row) (startOf epoch (wholeOf s))) (wholeOf s)) (numberIn (wholeOf s))))
+          (pick t row (stored (rowFor row (startOf epoch (wholeOf s))) (wholeOf s))) .immediate)
+          ≡ nextRecord row (pick t (frameOf row) (withString (frameFor (frameOf row) (startOf epoch (wholeOf s))) (wholeOf s)))
+      by true = same-record row u
+      by false = new-record row epoch (wholeOf s) long (whole-lt s) least u
+
+  pub record-after : recordOf (offeredRow row epoch s .immediate) ≡ nextRecord row (frameOf (offeredRow row epoch s))
+  unfolding counted
+  record-after = by (eqb (firstOf (offerTests (frameOf row) epoch s)) 0) refl ∙ ap (nextRecord row) (sym (frame-after row epoch s long))
+    where
+      by : (t : Bool) → eqb (firstOf (offerTests (frameOf row) epoch s)) 0 ≡ t
+          → recordOf (pick t (takenRow row epoch (wholeOf s) (verdictOf (ruling (plainOf s)))) (counted Refused row) .immediate)
+          ≡ nextRecord row (pick t (pick (isHere (frameOf row) epoch (wholeOf s)) (frameOf row) (withString (frameFor (frameOf row) (startOf epoch (wholeOf s))) (wholeOf s))) (frameOf row))
+      by true e = taken-record (taken-numbered (frameOf row) epoch s (eqb-true (firstOf (offerTests (frameOf row) epoch s)) 0 e))
+      by false e = same-record row u
+
+-- ---- over a history
+-- a history whose frame now makes a record has that record
+record-now : (cs : List Call) → makesRecord (heldAfter cs) ≡ true → recordAfter cs ≡ fourOf (heldAfter cs)
+unfolding recordAfter heldAfter
+record-now [] e = absurd (false≢true e)
+record-now (Offer epoch s ∷ cs) e = rw e
+record-now (Reset ∷ cs) e = absurd (false≢true e)
+
+no-record : recordOf (emptyRow .immediate) ≡ []
+unfolding emptyRow recordOf hasRecord isGood layout valuesOf firstBad numberOf wordOf
+no-record = refl
+
+-- THE ROW'S RECORD IS THE HISTORY'S
+pub record-is : (cs : List Call) (row : Row) → Runs cs row → recordOf (row .immediate) ≡ recordAfter cs
+unfolding recordAfter
+record-is cs row fresh = no-record
+record-is cs row (offering epoch s ds prior r run o) =
+    let h = held-is ds prior run in
+    let i = record-is ds prior run in
+    let u : UpToDate prior = (λ e. i ∙ record-now ds (ap makesRecord (sym h) ∙ e) ∙ ap fourOf (sym h)) in
+    let f : frameOf (offeredRow prior epoch s) ≡ heldAfter (Offer epoch s ∷ ds) =
+    ap frameOf (sym (offered-is prior epoch s r o)) ∙ held-is (Offer epoch s ∷ ds) (r .row) (offering epoch s ds prior r run o)
+    in
+    ap (λ (x : Row). recordOf (x .immediate)) (offered-is prior epoch s r o) ∙ record-after prior epoch s (runs-long ds prior run) u
+    ∙ ap₂ (λ (x : Frame) (l : List ℕ). pick (makesRecord x) (fourOf x) l) f i
+record-is cs row (resetting ds prior run) = no-record
+
+-- ---- when there is one
+-- a list with an element is not empty
+not-empty : (x : ℕ) (l : List ℕ) → x ∷ l ≡ [] → ⊥
+not-empty x l e = let z : _≡_ {A = ℕ} (length (x ∷ l)) 0 = ap length e in omega arith
+
+moment-found : (cs : List Call) → (recordAfter cs ≡ [] → ⊥) → SomeMoment cs
+unfolding recordAfter
+moment-found [] n = absurd (n refl)
+moment-found (Offer epoch s ∷ cs) n = by (makesRecord (heldAfter (Offer epoch s ∷ cs))) refl n (moment-found cs)
+  where
+    by : (t : Bool) → makesRecord (heldAfter (Offer epoch s ∷ cs)) ≡ t → (pick t (fourOf (heldAfter (Offer epoch s ∷ cs))) (recordAfter cs) ≡ [] → ⊥)
+        → ((recordAfter cs ≡ [] → ⊥) → SomeMoment cs) → SomeMoment (Offer epoch s ∷ cs)
+    by true e m ih = record { frame = heldAfter (Offer epoch s ∷ cs); left = now epoch s cs; makes = e }
+    by false e m ih = let i = ih m in record { frame = i .frame; left = before epoch s cs (i .frame) (i .left); makes = i .makes }
+moment-found (Reset ∷ cs) n = absurd (n refl)
+
+moment-kept : (cs : List Call) (f : Frame) → LeftSince cs f → makesRecord f ≡ true → recordAfter cs ≡ [] → ⊥
+unfolding recordAfter
+moment-kept cs f (now epoch s ds) e q = not-empty _ _ (rw e at q)
+moment-kept cs f (before epoch s ds g l) e q = by (makesRecord (heldAfter (Offer epoch s ∷ ds))) (λ z. moment-kept ds g l e z) q
+  where
+    by : (t : Bool) → (recordAfter ds ≡ [] → ⊥) → pick t (fourOf (heldAfter (Offer epoch s ∷ ds))) (recordAfter ds) ≡ [] → ⊥
+    by true ih z = not-empty _ _ z
+    by false ih z = ih z
+
+record-there : (i : Immediate) → (hasRecord i ≡ true) ↔ (recordOf i ≡ [] → ⊥)
+unfolding recordOf
+record-there i = by (hasRecord i)
+  where
+    by : (t : Bool) → (t ≡ true) ↔ (pick t (keptFour i) [] ≡ [] → ⊥)
+    by true = ((λ e z. not-empty _ _ z), (λ n. refl))
+    by false = ((λ e. absurd (false≢true e)), (λ n. absurd (n refl)))
+
+-- A RECORD IS HELD EXACTLY IF SOME MOMENT SINCE THE RESET LEFT STRINGS 1..4 PRESENT AND IN RANGE
+pub record-exactly : (cs : List Call) (row : Row) → Runs cs row → (hasRecord (row .immediate) ≡ true) ↔ SomeMoment cs
+record-exactly cs row run =
+    let e = record-is cs row run in
+    let t = record-there (row .immediate) in (
+      (λ h. moment-found cs (λ z. t .0 h (e ∙ z))),
+      (λ (m : SomeMoment cs). t .1 (λ z. moment-kept cs (m .frame) (m .left) (m .makes) (sym e ∙ z))),
+    )
