@@ -1,0 +1,6 @@
+pub mod Sees
+pub mod Tells
+pub mod Decimal
+pub mod Pieces
+pub mod Block
+pub mod InBlocks

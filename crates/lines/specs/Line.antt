@@ -1,0 +1,84 @@
+-- A record of the listing and its line (the paper, the end of "Known strings and edges"). For every station and any sixteen bytes.
+-- Assumes nothing.
+use Prim.Native.Nat.{ℕ}
+use mathlib.Core.Bool.{Bool, false, _||_}
+use mathlib.Core.List.{List, [], _∷_}
+use mathlib.Core.Path.{_≡_}
+use lib.Dec.{eqb}
+use lib.ListN.{getD, take, drop}
+use Rattle.strings.specs.Pick.{pick}
+use Rattle.strings.specs.declared.Verdict.{Verdict}
+use Rattle.strings.specs.declared.Verdict.the-variants.{Clean, Repaired}
+use Rattle.strings.specs.declared.hamming.Ruling.{Ruling}
+use Rattle.strings.specs.declared.hamming.Ruling.the-variants.{Sound, Damaged}
+use Rattle.strings.specs.Number.{valueOf}
+use Rattle.strings.specs.Hamming.{ruling}
+use Rattle.strings.specs.Numbers.{firstOf}
+use Rattle.words.specs.Calls.{numberIn}
+use Rattle.channel.specs.Offers.{plainOf, wholeOf}
+use Rattle.station.specs.declared.Station.{Station}
+use Rattle.station.specs.Station.{stationTests, stationAfter}
+use Rattle.lines.specs.declared.Line.{Line}
+use Rattle.lines.specs.declared.Listed.{Listed}
+
+-- ---- "16-byte records (channel, epoch big-endian in four bytes, relative string)"
+abbrev pub channelIn : List ℕ → ℕ
+channelIn rec = getD rec 0 0
+
+abbrev pub epochIn : List ℕ → ℕ
+epochIn rec = valueOf (take 4 (drop 1 rec))
+
+abbrev pub symbolsIn : List ℕ → List ℕ
+symbolsIn rec = take 11 (drop 5 rec)
+
+-- ---- "number (0 if taken)": that of the first test that fits
+abbrev pub numberFor : Station → List ℕ → ℕ
+numberFor st rec = firstOf (stationTests st (channelIn rec) (epochIn rec) (symbolsIn rec))
+
+-- a number is one of these
+abbrev pub isOneOf : List ℕ → ℕ → Bool
+isOneOf [] k = false
+isOneOf (n ∷ ns) k = eqb k n || isOneOf ns k
+
+-- ---- "repaired bit (0 if none or number 1..4)"
+abbrev pub beforeVerdict : List ℕ
+beforeVerdict = 1 ∷ 2 ∷ 3 ∷ 4 ∷ []
+
+-- the bit of a verdict, and of the check's ruling: 0 if none
+abbrev pub bitIn : Verdict → ℕ
+bitIn Clean = 0
+bitIn (Repaired i) = i
+
+abbrev pub bitOn : Ruling → ℕ
+bitOn (Sound v) = bitIn v
+bitOn (Damaged d) = 0
+
+abbrev pub repairedFor : ℕ → List ℕ → ℕ
+repairedFor number s = pick (isOneOf beforeVerdict number) 0 (bitOn (ruling (plainOf s)))
+
+-- ---- "m (0 for 1..5)", of the string as the check leaves it
+abbrev pub beforeNumber : List ℕ
+beforeNumber = 1 ∷ 2 ∷ 3 ∷ 4 ∷ 5 ∷ []
+
+abbrev pub mFor : ℕ → List ℕ → ℕ
+mFor number s = pick (isOneOf beforeNumber number) 0 (numberIn (wholeOf s))
+
+-- ---- the line of a record
+unfoldable pub lineFor : Station → List ℕ → Line
+lineFor st rec =
+    record {
+      channel = channelIn rec;
+      epoch = epochIn rec;
+      number = numberFor st rec;
+      repaired = repairedFor (numberFor st rec) (symbolsIn rec);
+      m = mFor (numberFor st rec) (symbolsIn rec);
+    }
+
+-- a record offered to a station: the five numbers, and the whole station after it
+pub record Lists (st : Station) (rec : List ℕ) (r : Listed) : Type 0 where
+  pub channel : r .line .channel ≡ channelIn rec
+  pub epoch : r .line .epoch ≡ epochIn rec
+  pub number : r .line .number ≡ numberFor st rec
+  pub repaired : r .line .repaired ≡ repairedFor (numberFor st rec) (symbolsIn rec)
+  pub m : r .line .m ≡ mFor (numberFor st rec) (symbolsIn rec)
+  pub station : r .station ≡ stationAfter st (channelIn rec) (epochIn rec) (symbolsIn rec)

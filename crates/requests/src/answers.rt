@@ -1,0 +1,96 @@
+// The line that answers a request, in the paper's numbers.
+use crate::line::Text;
+use crate::line::put_hex;
+use crate::line::put_next;
+use crate::line::put_text;
+use crate::records::put_record;
+use strings::Checked;
+use strings::Refusal;
+use strings::Verdict;
+use strings::Written;
+use words::Reading;
+ghost use Prim.Native.Nat.{_≤_};
+
+// `no N`, for RANGE `no 10 PLACE`.
+pub fn say_no(text: &mut Text, r: Refusal) -> usize
+    ensures { λ n. ⌜ n ≤ 512 ⌝ }
+{
+    let no = put_text(text, 0, b"no");
+    let end = put_next(text, no, strings::number_of(r) as u64);
+    match r {
+        Refusal::Range(place) => put_next(text, end, place as u64),
+        _ => end,
+    }
+}
+
+// `bad OP`.
+pub fn say_bad(text: &mut Text, op: u8) -> usize
+    ensures { λ n. ⌜ n ≤ 512 ⌝ }
+{
+    let bad = put_text(text, 0, b"bad");
+    put_next(text, bad, op as u64)
+}
+
+// `short COUNT`.
+pub fn say_short(text: &mut Text, count: usize) -> usize
+    ensures { λ n. ⌜ n ≤ 512 ⌝ }
+{
+    let short = put_text(text, 0, b"short");
+    put_next(text, short, count as u64)
+}
+
+// `ok`.
+pub fn say_ok(text: &mut Text) -> usize
+    ensures { λ n. ⌜ n ≤ 512 ⌝ }
+{
+    put_text(text, 0, b"ok")
+}
+
+// `ok HEX`.
+pub fn say_written(text: &mut Text, w: Written, out: &[u8]) -> usize
+    ensures { λ n. ⌜ n ≤ 512 ⌝ }
+{
+    match w {
+        Written::Refused(r) => say_no(text, r),
+        Written::Done => {
+            let hex = put_text(text, 0, b"ok ");
+            put_hex(text, hex, out)
+        }
+    }
+}
+
+// `ok BIT HEX`, BIT 0 where the string was clean.
+pub fn say_checked(text: &mut Text, c: Checked, out: &[u8]) -> usize
+    ensures { λ n. ⌜ n ≤ 512 ⌝ }
+{
+    match c {
+        Checked::Refused(r) => say_no(text, r),
+        Checked::Taken(v) => {
+            let ok = say_ok(text);
+            let bit = put_next(text, ok, bit_of(v) as u64);
+            let hex = put_text(text, bit, b" ");
+            put_hex(text, hex, out)
+        }
+    }
+}
+
+pub fn bit_of(v: Verdict) -> u8 {
+    match v {
+        Verdict::Clean => 0,
+        Verdict::Repaired(i) => i,
+    }
+}
+
+// `ok M W1 W2 ..`, as many words as the kind has.
+pub fn say_read(text: &mut Text, r: Reading) -> usize
+    ensures { λ n. ⌜ n ≤ 512 ⌝ }
+{
+    match r {
+        Reading::Refused(q) => say_no(text, q),
+        Reading::Read(m, record) => {
+            let ok = say_ok(text);
+            let number = put_next(text, ok, m as u64);
+            put_record(text, number, record)
+        }
+    }
+}

@@ -1,0 +1,145 @@
+// Any public call, made by a request: one byte op, two bytes big-endian length, then that many bytes.
+// Requests come one after another on standard input, and each is answered by one line of output.
+mod answers;
+mod line;
+mod numbers;
+mod records;
+mod station_answers;
+mod station_calls;
+mod station_queries;
+mod string_calls;
+mod word_calls;
+
+use answers::say_bad;
+use answers::say_short;
+use libc::STDIN_FILENO;
+use libc::STDOUT_FILENO;
+use line::Text;
+use line::put_text;
+use numbers::pair;
+use station::Station;
+use station_calls::Answered;
+use station_calls::fresh_call;
+use station_calls::offer_call;
+use station_calls::reset_call;
+use station_queries::query_call;
+use string_calls::string_call;
+use word_calls::read_call;
+use word_calls::write_call;
+ghost use Prim.Native.Nat.{_≤_, _<_};
+ghost use lib.ListN.{length};
+
+// The station after a turn, and whether another request may follow.
+struct Turned {
+    station: Station,
+    more: bool,
+}
+
+// The line for one whole request, and the station after it.
+fn answer(op: u8, payload: &[u8], st: Station, text: &mut Text) -> Answered
+    ensures { λ r. ⌜ r .used ≤ 512 ⌝ }
+{
+    match op {
+        6 => offer_call(payload, st, text),
+        7 => reset_call(payload, st, text),
+        12 => fresh_call(payload, st, text),
+        _ => Answered {
+            station: st,
+            used: told(op, payload, st, text),
+        },
+    }
+}
+
+// The line for a request that leaves the station as it was.
+fn told(op: u8, payload: &[u8], st: Station, text: &mut Text) -> usize
+    ensures { λ n. ⌜ n ≤ 512 ⌝ }
+{
+    match op {
+        1 | 2 | 3 => string_call(op, payload, text),
+        4 => read_call(payload, text),
+        5 => write_call(payload, text),
+        8 | 9 | 10 | 11 => query_call(op, payload, st, text),
+        _ => say_bad(text, op),
+    }
+}
+
+// Ends the line and writes it.
+fn print(text: &mut Text, n: usize)
+    requires { ⌜ n ≤ 512 ⌝ }
+{
+    let end = put_text(text, n, b"\n");
+    write_start(text, end);
+}
+
+// The text is a slice here, because a part of an array behind a reference cannot be lent.
+fn write_start(text: &[u8], n: usize)
+    requires { ⌜ n ≤ length (now text) ⌝ }
+{
+    io::write_all(STDOUT_FILENO, &text[0..n]);
+}
+
+// The input stopped within a request, of which this many bytes came.
+fn print_short(count: usize) {
+    let mut text = [0u8; 512];
+    let n = say_short(&mut text, count);
+    print(&mut text, n);
+}
+
+// After the last turn.
+fn ended(st: Station) -> Turned {
+    Turned {
+        station: st,
+        more: false,
+    }
+}
+
+// Reads the payload, of which the size is known, and prints the request's line.
+fn finish(op: u8, size: usize, space: &mut [u8], st: Station) -> Turned
+    requires { ⌜ (size < 65536) × (size ≤ length (now space)) ⌝ }
+{
+    let payload = &mut space[0..size];
+    let got = io::read_full(STDIN_FILENO, payload);
+    if got < size {
+        print_short(3 + got);
+        return ended(st);
+    }
+    let mut text = [0u8; 512];
+    let answered = answer(op, payload, st, &mut text);
+    print(&mut text, answered.used);
+    let next = answered.station;
+    Turned {
+        station: next,
+        more: true,
+    }
+}
+
+// Reads one request and prints its line.
+fn turn(space: &mut [u8; 65536], st: Station) -> Turned {
+    let mut head = [0u8; 3];
+    let got = io::read_full(STDIN_FILENO, &mut head);
+    if got == 0 {
+        return ended(st);
+    }
+    if got < 3 {
+        print_short(got);
+        return ended(st);
+    }
+    finish(head[0], pair(head[1], head[2]), space, st)
+}
+
+// Answers every request, all by one station that is fresh at the start. Nothing says that the input
+// ends, so the turns are counted down from a number that no run uses up.
+pub fn answer_all() {
+    let mut space = io::large_buffer();
+    let mut turned = Turned {
+        station: station::fresh(),
+        more: true,
+    };
+    let mut turns = u64::MAX;
+    while turns > 0 && turned.more {
+        let st = turned.station;
+        let next = turn(&mut space, st);
+        turned = next;
+        turns -= 1;
+    }
+}

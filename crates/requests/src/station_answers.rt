@@ -1,0 +1,151 @@
+// The line that answers a request to the station, in the paper's numbers.
+use crate::answers::bit_of;
+use crate::answers::say_no;
+use crate::answers::say_ok;
+use crate::line::Text;
+use crate::line::put_digits;
+use crate::line::put_next;
+use crate::line::put_pair;
+use crate::line::put_text;
+use crate::records::put_record;
+use book::Entry;
+use channel::Answer;
+use channel::News;
+use channel::Tallies;
+use station::EntryFound;
+use station::Health;
+use station::HealthFound;
+use station::RecordFound;
+use station::TalliesFound;
+use strings::Written;
+use words::ImmediateWords;
+use words::Record;
+ghost use Prim.Native.Nat.{_≤_};
+
+// `taken M BIT NEWS`, BIT 0 where the string was clean.
+pub fn say_offered(text: &mut Text, a: Answer) -> usize
+    ensures { λ n. ⌜ n ≤ 512 ⌝ }
+{
+    match a {
+        Answer::Refused(r) => say_no(text, r),
+        Answer::Taken(m, v, news) => {
+            let taken = put_text(text, 0, b"taken");
+            let number = put_next(text, taken, m as u64);
+            let bit = put_next(text, number, bit_of(v) as u64);
+            put_next(text, bit, news_number(news) as u64)
+        }
+    }
+}
+
+fn news_number(news: News) -> u8 {
+    match news {
+        News::AlreadyHeld => 0,
+        News::Kept => 1,
+        News::RecordBuilt => 2,
+        News::RecordOutOfRange => 3,
+    }
+}
+
+// `ok`.
+pub fn say_emptied(text: &mut Text, w: Written) -> usize
+    ensures { λ n. ⌜ n ≤ 512 ⌝ }
+{
+    match w {
+        Written::Refused(r) => say_no(text, r),
+        Written::Done => say_ok(text),
+    }
+}
+
+// `ok` and the 26 words of strings 1 to 4.
+pub fn say_immediate(text: &mut Text, f: RecordFound) -> usize
+    ensures { λ n. ⌜ n ≤ 512 ⌝ }
+{
+    match f {
+        RecordFound::Refused(r) => say_no(text, r),
+        RecordFound::Found(w) => put_immediate(text, w),
+    }
+}
+
+fn put_immediate(text: &mut Text, w: ImmediateWords) -> usize
+    ensures { λ n. ⌜ n ≤ 512 ⌝ }
+{
+    let one = w.one;
+    let two = w.two;
+    let three = w.three;
+    let four = w.four;
+    let mut at = say_ok(text);
+    at = put_record(text, at, Record::One(one));
+    at = put_record(text, at, Record::Two(two));
+    at = put_record(text, at, Record::Three(three));
+    put_record(text, at, Record::Four(four))
+}
+
+// `ok DAY EVEN ODD`.
+pub fn say_entry(text: &mut Text, f: EntryFound) -> usize
+    ensures { λ n. ⌜ n ≤ 512 ⌝ }
+{
+    match f {
+        EntryFound::Refused(r) => say_no(text, r),
+        EntryFound::Found(e) => put_entry(text, e),
+    }
+}
+
+fn put_entry(text: &mut Text, e: Entry) -> usize
+    ensures { λ n. ⌜ n ≤ 512 ⌝ }
+{
+    let ok = say_ok(text);
+    let day = put_next(text, ok, e.day as u64);
+    let even = put_half(text, day, e.etop, e.even);
+    put_half(text, even, e.otop, e.odd)
+}
+
+// A half's bits as one number of 18 digits, behind a space: the top in two digits, the rest in 16.
+fn put_half(text: &mut Text, at: usize, top: u8, rest: u64) -> usize
+    requires { ⌜ at ≤ 512 ⌝ }
+    ensures { λ n. ⌜ n ≤ 512 ⌝ }
+{
+    let space = put_text(text, at, b" ");
+    let high = put_pair(text, space, top);
+    put_digits(text, high, rest, 16)
+}
+
+// `ok OFFERED CLEAN REPAIRED REFUSED`.
+pub fn say_tallies(text: &mut Text, f: TalliesFound) -> usize
+    ensures { λ n. ⌜ n ≤ 512 ⌝ }
+{
+    match f {
+        TalliesFound::Refused(r) => say_no(text, r),
+        TalliesFound::Found(t) => put_tallies(text, t),
+    }
+}
+
+fn put_tallies(text: &mut Text, t: Tallies) -> usize
+    ensures { λ n. ⌜ n ≤ 512 ⌝ }
+{
+    let ok = say_ok(text);
+    let offered = put_next(text, ok, t.offered as u64);
+    let clean = put_next(text, offered, t.clean as u64);
+    let repaired = put_next(text, clean, t.repaired as u64);
+    put_next(text, repaired, t.refused as u64)
+}
+
+// `ok HEALTH`.
+pub fn say_health(text: &mut Text, f: HealthFound) -> usize
+    ensures { λ n. ⌜ n ≤ 512 ⌝ }
+{
+    match f {
+        HealthFound::Refused(r) => say_no(text, r),
+        HealthFound::Found(h) => {
+            let ok = say_ok(text);
+            put_next(text, ok, health_number(h) as u64)
+        }
+    }
+}
+
+fn health_number(h: Health) -> u8 {
+    match h {
+        Health::Unknown => 0,
+        Health::Usable => 1,
+        Health::NotUsable => 2,
+    }
+}

@@ -1,0 +1,71 @@
+// Requests 6, 7 and 12: the calls that change the station.
+use crate::answers::say_bad;
+use crate::answers::say_ok;
+use crate::line::Text;
+use crate::numbers::four;
+use crate::station_answers::say_emptied;
+use crate::station_answers::say_offered;
+use station::Station;
+ghost use Prim.Native.Nat.{_≤_};
+
+// The station after a request, and how much of the text its line takes.
+pub struct Answered {
+    pub station: Station,
+    pub used: usize,
+}
+
+// A payload of no such length leaves the station as it was.
+fn bad_call(op: u8, st: Station, text: &mut Text) -> Answered
+    ensures { λ r. ⌜ r .used ≤ 512 ⌝ }
+{
+    Answered {
+        station: st,
+        used: say_bad(text, op),
+    }
+}
+
+// Request 6: the channel, the epoch in four bytes, then the string.
+pub fn offer_call(payload: &[u8], st: Station, text: &mut Text) -> Answered
+    ensures { λ r. ⌜ r .used ≤ 512 ⌝ }
+{
+    if payload.len() < 5 {
+        return bad_call(6, st, text);
+    }
+    let epoch = four(payload[1], payload[2], payload[3], payload[4]) as u32;
+    let stepped = station::offer(st, payload[0], epoch, &payload[5..]);
+    let next = stepped.station;
+    let answer = stepped.answer;
+    Answered {
+        station: next,
+        used: say_offered(text, answer),
+    }
+}
+
+// Request 7: the channel.
+pub fn reset_call(payload: &[u8], st: Station, text: &mut Text) -> Answered
+    ensures { λ r. ⌜ r .used ≤ 512 ⌝ }
+{
+    if payload.len() != 1 {
+        return bad_call(7, st, text);
+    }
+    let emptied = station::reset(st, payload[0]);
+    let next = emptied.station;
+    let answer = emptied.answer;
+    Answered {
+        station: next,
+        used: say_emptied(text, answer),
+    }
+}
+
+// Request 12: no payload.
+pub fn fresh_call(payload: &[u8], st: Station, text: &mut Text) -> Answered
+    ensures { λ r. ⌜ r .used ≤ 512 ⌝ }
+{
+    if payload.len() != 0 {
+        return bad_call(12, st, text);
+    }
+    Answered {
+        station: station::fresh(),
+        used: say_ok(text),
+    }
+}

@@ -1,0 +1,316 @@
+-- The client's demands, proved of every run of the station's calls (the statements stand in `specs/Demands.antt`).
+-- Assumes nothing.
+use mathlib.Core.Path.{_≡_, refl, sym, ap, ap₂, subst, _∙_}
+use mathlib.Core.Bool.{Bool, true, false, _&&_, not}
+use mathlib.Core.List.{List, [], _∷_, _++_}
+use mathlib.Core.Logic.{_⊎_, inl, inr, ⊎-elim, _↔_}
+use Prim.Native.Nat.{ℕ, _+_, _≤_}
+use native.Mathlib.Omega.{arith}
+use borrow.Author.Tests.{ne-eqb, eqb-true, eqb-false, leb-true}
+use lib.Dec.{eqb, leb}
+use lib.ListN.{length, getD, set, length-set, length-replicate, getD-replicate}
+use lib.Seq.{getD-set-same, getD-set-other}
+use Rattle.strings.specs.Pick.{pick}
+use Rattle.strings.specs.Number.{wordOf}
+use Rattle.words.specs.Records.{stringAt}
+use Rattle.book.specs.declared.Book.{Book}
+use Rattle.book.specs.Entry.{meaning}
+use Rattle.book.specs.Book.{inSlot}
+use Rattle.book.proofs.Good.{both}
+use Rattle.book.proofs.Order.{below-same}
+use Rattle.book.proofs.Joins.{Full, empty-full}
+use Rattle.channel.specs.declared.Row.{Row}
+use Rattle.channel.specs.declared.Tallies.{Tallies}
+use Rattle.channel.specs.Frame.{isHere}
+use Rattle.channel.specs.Row.{frameOf, hasRecord, recordOf, keptFour, emptyRow}
+use Rattle.channel.specs.Offers.{isTaken, OnlyCounted, wholeOf, offeredRow, storesIt}
+use Rattle.channel.specs.Shows.{showsOf, brought}
+use Rattle.channel.specs.History.{recordAfter}
+use Rattle.channel.specs.Relock.{Heard, FirstOf15, NothingElse, Once, GoodTaken}
+use Rattle.channel.proofs.HeldFrame.{held-is, refused-only, taken-exactly, offered-long}
+use Rattle.channel.proofs.TrueCounts.{tallies-are}
+use Rattle.channel.proofs.LatestRecord.{record-is}
+use Rattle.channel.proofs.Relock.{relock-row}
+use Rattle.station.specs.declared.Station.{Station}
+use Rattle.station.specs.declared.Stepped.{Stepped}
+use Rattle.station.specs.declared.Emptied.{Emptied}
+use Rattle.station.specs.declared.Health.{Health}
+use Rattle.station.specs.Station.{noRow, rowAt, isNoChannel, stationAfter, stationReset, OffersTo, freshStation, bookAfter, Resets}
+use Rattle.station.specs.History.{Call, channelOf, callsOn, Runs, fresh, offering, resetting, stationOf}
+use Rattle.station.specs.declared.Health.the-variants.{Unknown, Usable, NotUsable}
+use Rattle.station.specs.Queries.{keptAt, isSlot, isEmpty, topOfB, satelliteOf, statusOf, judged, healthBy}
+use Rattle.station.specs.Demands.{AllDemands, WellMade, KnownIn, UsableIn, HealthIn, SameCalls, Reordered, SameShown, SameBooks, RefusalLeaves, ChannelLeaves, Answered, Counted, Exchanged, BookRule, Relocked}
+use Rattle.station.proofs.ChannelRuns.{in-step, served-below, after-none, after-some, reset-none, reset-some, row-offers}
+use Rattle.station.proofs.EveryHistory.{every-history}
+use Rattle.station.proofs.Holding.{brought-full}
+use Rattle.station.proofs.BookRule.{empty-exactly, greatest-there}
+use Rattle.station.proofs.Reorder.{offer-said, reset-said, said-same, same-later, not-x, not-y, same-book, reorder}
+
+-- ---- A FRESH STATION IS WELL MADE, AND EVERY CALL LEAVES IT SO
+fresh-made : WellMade freshStation
+unfolding freshStation emptyRow
+fresh-made =
+    record {
+      rows = length-replicate 24 emptyRow;
+      strings = λ c e. ap (λ (x : Row). length (x .strings)) (getD-replicate 24 c emptyRow noRow (served-below c e)) ∙ length-replicate {A = ℕ} 165 0;
+      entries = empty-full;
+    }
+
+-- one row put back, and a book
+put-made : (st : Station) (c : ℕ) (row : Row) (b : Book) → WellMade st → isNoChannel c ≡ false → length (row .strings) ≡ 165 → Full b
+    → WellMade (record { rows = set (st .rows) c row; book = b })
+put-made st c row b w e l f =
+    record { rows = length-set (st .rows) c row ∙ w .rows; strings = λ k d. by k d (eqb k c) refl; entries = f }
+  where
+    by : (k : ℕ) → isNoChannel k ≡ false → (t : Bool) → eqb k c ≡ t → length (getD (set (st .rows) c row) k noRow .strings) ≡ 165
+    by k d true q =
+        rw (eqb-true k c q) (ap (λ (x : Row). length (x .strings)) (getD-set-same (st .rows) c row noRow (omega (arith, served-below c e, w .rows))) ∙ l)
+    by k d false q = ap (λ (x : Row). length (x .strings)) (getD-set-other (st .rows) c k row noRow (eqb-false k c q)) ∙ w .strings k d
+
+pub offer-made : (st : Station) (c epoch : ℕ) (s : List ℕ) (r : Stepped) → WellMade st → OffersTo st c epoch s r → WellMade (r .station)
+offer-made st c epoch s r w o = by (isNoChannel c) refl
+  where
+    book : (t : Bool) → Full (pick t (brought (st .book) (showsOf (frameOf (offeredRow (rowAt st c) epoch s)))) (st .book))
+    book true = brought-full (showsOf (frameOf (offeredRow (rowAt st c) epoch s))) (st .book) (w .entries)
+    book false = w .entries
+
+    by : (t : Bool) → isNoChannel c ≡ t → WellMade (r .station)
+    by true e = subst WellMade (sym (o .station ∙ after-none st c epoch s e)) w
+    by false e =
+        subst WellMade (sym (o .station ∙ after-some st c epoch s e))
+        (put-made st c (offeredRow (rowAt st c) epoch s) (bookAfter (st .book) (rowAt st c) epoch s) w e (offered-long (rowAt st c) epoch s (w .strings c e))
+        (book (storesIt (frameOf (rowAt st c)) epoch s)))
+
+pub reset-made : (st : Station) (c : ℕ) (r : Emptied) → WellMade st → Resets st c r → WellMade (r .station)
+unfolding emptyRow
+reset-made st c r w o = by (isNoChannel c) refl
+  where
+    by : (t : Bool) → isNoChannel c ≡ t → WellMade (r .station)
+    by true e = subst WellMade (sym (o .station ∙ reset-none st c e)) w
+    by false e = subst WellMade (sym (o .station ∙ reset-some st c e)) (put-made st c emptyRow (st .book) w e (length-replicate {A = ℕ} 165 0) (w .entries))
+
+-- so is every station that calls leave
+pub runs-made : (cs : List Call) (st : Station) → Runs cs st → WellMade st
+runs-made cs st fresh = fresh-made
+runs-made cs st (offering c epoch s ds before r run o) = offer-made before c epoch s r (runs-made ds before run) o
+runs-made cs st (resetting c ds before r run o) = reset-made before c r (runs-made ds before run) o
+
+-- ---- DEMAND 1
+pub channel-leaves : (st : Station) (c : ℕ) → isNoChannel c ≡ true → ChannelLeaves st c
+channel-leaves st c e =
+    record { offers = λ epoch s r o. o .station ∙ after-none st c epoch s e; resets = λ r o. o .station ∙ reset-none st c e }
+
+pub refusal-leaves : (st : Station) (c epoch : ℕ) (s : List ℕ) (r : Stepped) → WellMade st → isNoChannel c ≡ false
+    → OffersTo st c epoch s r → isTaken (r .answer) ≡ false → RefusalLeaves st c (r .station)
+refusal-leaves st c epoch s r made e o n =
+    let row = rowAt st c in
+    let next = offeredRow row epoch s in
+    let p = row-offers st c epoch s r e o in
+    let q : storesIt (frameOf row) epoch s ≡ false = ap (λ (t : Bool). t && not (isHere (frameOf row) epoch (wholeOf s))) (sym (taken-exactly row epoch s (record { row = next; answer = r .answer }) p) ∙ n) in
+    subst (RefusalLeaves st c) (sym (o .station ∙ after-some st c epoch s e)) (record {
+      book = ap (λ (t : Bool). pick t (brought (st .book) (showsOf (frameOf next))) (st .book)) q;
+      others = λ k d. getD-set-other (st .rows) c k next noRow d;
+      own = subst (OnlyCounted row) (sym (getD-set-same (st .rows) c next noRow (omega (arith, served-below c e, made .rows))))
+          (refused-only row epoch s (record { row = next; answer = r .answer }) p n);
+    })
+
+-- ---- every answer is what the calls before determine
+pub answered : (cs : List Call) (st : Station) → Runs cs st → Answered cs st
+answered cs st run = record { offers = offer-said cs st run; resets = reset-said cs st }
+
+-- ---- DEMAND 2
+pub counted : (cs : List Call) (st : Station) → Runs cs st → (c : ℕ) → isNoChannel c ≡ false → Counted cs st c
+counted cs st run c e =
+    let i = in-step cs st run .run c e in
+    let t = tallies-are (callsOn c cs) (rowAt st c) i in
+    record {
+      frame = held-is (callsOn c cs) (rowAt st c) i;
+      kept = record-is (callsOn c cs) (rowAt st c) i;
+      offered = ap (λ (x : Tallies). x .offered) t;
+      clean = ap (λ (x : Tallies). x .clean) t;
+      repaired = ap (λ (x : Tallies). x .repaired) t;
+      refused = ap (λ (x : Tallies). x .refused) t;
+    }
+
+-- ---- DEMAND 3
+pub exchanged : (later earlier : List Call) (x y : Call) → (channelOf x ≡ channelOf y → ⊥) → Exchanged later earlier x y
+exchanged later earlier x y d =
+    record {
+      answer-x = said-same (y ∷ earlier) earlier x (not-y x y d earlier);
+      answer-y = said-same earlier (x ∷ earlier) y (sym (not-x x y d earlier));
+      answer-later = λ part z. said-same (part ++ (x ∷ y ∷ earlier)) (part ++ (y ∷ x ∷ earlier)) z (same-later x y d part earlier (channelOf z));
+      station = λ st st′ run run′. reorder (later ++ (x ∷ y ∷ earlier)) (later ++ (y ∷ x ∷ earlier)) st st′ run run′ (λ c e. same-later x y d later earlier c);
+    }
+
+pub reordered : (cs ds : List Call) → SameCalls cs ds → Reordered cs ds
+reordered cs ds same =
+    record {
+      station = λ st st′ run run′. reorder cs ds st st′ run run′ same;
+      answer = λ next e. said-same cs ds next (same (channelOf next) e);
+    }
+
+pub two-cards : (cs ds : List Call) → SameShown cs ds → SameBooks cs ds
+two-cards cs ds same st st′ run run′ = same-book cs ds st st′ run run′ (λ k u. same k u .0) (λ k u. same k u .1)
+
+pub book-rule : (cs : List Call) (st : Station) → Runs cs st → (slot : ℕ) → 1 ≤ slot → slot ≤ 24 → BookRule cs st slot
+book-rule cs st run slot least most = record { greatest = greatest-there cs st run slot least most; empty = empty-exactly cs st run slot least most }
+
+-- ---- RELOCK
+pub relocked : (st : Station) (channel : ℕ) (c : Heard) (r : Stepped) → WellMade st → isNoChannel channel ≡ false → OffersTo st channel (c .epoch) (c .bytes) r → isTaken (r .answer) ≡ true → Relocked c r channel
+relocked st channel c r made e o t =
+    let row = rowAt st channel in
+    let next = offeredRow row (c .epoch) (c .bytes) in
+    let there : rowAt (r .station) channel ≡ next =
+    ap (λ (x : Station). rowAt x channel) (o .station ∙ after-some st channel (c .epoch) (c .bytes) e)
+    ∙ getD-set-same (st .rows) channel next noRow (omega (arith, served-below channel e, made .rows))
+    in
+    subst
+    (λ (x : Row). (f : ℕ) → FirstOf15 (x .start) f
+    → (f ≤ c .epoch + 29) × ((cs : List Heard) → NothingElse (frameOf x) f cs → Once f cs → GoodTaken (frameOf x) f cs))
+    (sym there) (relock-row row c (record { row = next; answer = r .answer }) (made .strings channel e) (row-offers st channel (c .epoch) (c .bytes) r e o) t)
+
+-- ---- HEALTH
+-- what the judgement says
+judged-usable : (b c : ℕ) → (judged b c ≡ Usable) ↔ ((b ≡ 0) × (c ≡ 1))
+unfolding judged
+judged-usable b c = by (eqb b 0) (eqb c 1) refl refl
+  where
+    by : (t u : Bool) → eqb b 0 ≡ t → eqb c 1 ≡ u → (pick (t && u) Usable NotUsable ≡ Usable) ↔ ((b ≡ 0) × (c ≡ 1))
+    by true true p q = ((λ e. (eqb-true b 0 p, eqb-true c 1 q)), (λ e. refl))
+    by true false p q = ((λ e. let z : _≡_ {A = ℕ} 0 1 = cc in absurd (omega arith)), (λ e. absurd (eqb-false c 1 q (e .1))))
+    by false u p q = ((λ e. let z : _≡_ {A = ℕ} 0 1 = cc in absurd (omega arith)), (λ e. absurd (eqb-false b 0 p (e .0))))
+
+not-both : Unknown ≡ Usable → ⊥
+not-both q = let z : _≡_ {A = ℕ} 0 1 = cc in omega arith
+
+-- it is never unknown
+not-unknown : (b c : ℕ) → judged b c ≡ Unknown → ⊥
+unfolding judged
+not-unknown b c = by (eqb b 0 && eqb c 1)
+  where
+    by : (t : Bool) → pick t Usable NotUsable ≡ Unknown → ⊥
+    by true q = let z : _≡_ {A = ℕ} 0 1 = cc in omega arith
+    by false q = let z : _≡_ {A = ℕ} 0 1 = cc in omega arith
+
+module _ (cs : List Call) (st : Station) (run : Runs cs st) (c : ℕ) (e : isNoChannel c ≡ false) where
+  kept-is : recordOf (keptAt st c) ≡ recordAfter (callsOn c cs)
+  kept-is = record-is (callsOn c cs) (rowAt st c) (in-step cs st run .run c e)
+
+  -- a record, and an entry for its n, in the station: so the calls give them
+  known-there : hasRecord (keptAt st c) ≡ true → isSlot (satelliteOf (keptAt st c)) ≡ true → isEmpty (st .book) (satelliteOf (keptAt st c)) ≡ false → KnownIn cs c
+  unfolding recordOf
+  known-there h l n =
+      let i = keptAt st c in
+      let k = satelliteOf i in
+      let b = both (leb 1 k) (leb k 24) l in
+      record {
+        one = stringAt (i .strings) 0;
+        two = stringAt (i .strings) 1;
+        three = stringAt (i .strings) 2;
+        four = stringAt (i .strings) 3;
+        kept = sym kept-is ∙ rw h;
+        slot = l;
+        entry = meaning (inSlot (st .book) k);
+        greatest = greatest-there cs st run k (leb-true 1 k (b .0)) (leb-true k 24 (b .1)) (eqb-false (inSlot (st .book) k .day) 0 n);
+      }
+
+  -- and back
+  module _ (w : KnownIn cs c) where
+    abbrev n : ℕ
+    n = wordOf (w .four) 15 11
+
+    -- there is a record, and it is those four strings
+    there : (hasRecord (keptAt st c) ≡ true) × (keptFour (keptAt st c) ≡ w .one ∷ w .two ∷ w .three ∷ w .four ∷ [])
+    unfolding recordOf
+    there = by (hasRecord (keptAt st c)) refl (kept-is ∙ w .kept)
+      where
+        by : (t : Bool) → hasRecord (keptAt st c) ≡ t → pick t (keptFour (keptAt st c)) [] ≡ w .one ∷ w .two ∷ w .three ∷ w .four ∷ []
+            → (hasRecord (keptAt st c) ≡ true) × (keptFour (keptAt st c) ≡ w .one ∷ w .two ∷ w .three ∷ w .four ∷ [])
+        by true h q = (h, q)
+        by false h q = let z : _≡_ {A = ℕ} 0 4 = ap length q in absurd (omega arith)
+
+    its-two : stringAt (keptAt st c .strings) 1 ≡ w .two
+    its-two = ap (λ (l : List ℕ). getD l 1 0) (there .1)
+
+    its-slot : satelliteOf (keptAt st c) ≡ n
+    its-slot = ap (λ (l : List ℕ). wordOf (getD l 3 0) 15 11) (there .1)
+
+    within : (1 ≤ n) × (n ≤ 24)
+    within = let b = both (leb 1 n) (leb n 24) (w .slot) in (leb-true 1 n (b .0), leb-true n 24 (b .1))
+
+    not-empty : inSlot (st .book) n .day ≡ 0 → ⊥
+    not-empty z = empty-exactly cs st run n (within .0) (within .1) .0 z (w .entry) (w .greatest .shown)
+
+    -- the slot holds that entry
+    its-entry : meaning (inSlot (st .book) n) ≡ w .entry
+    its-entry =
+        let g = greatest-there cs st run n (within .0) (within .1) not-empty in
+        below-same (meaning (inSlot (st .book) n)) (w .entry) (g .none-above (w .entry) (w .greatest .shown))
+        (w .greatest .none-above (meaning (inSlot (st .book) n)) (g .shown))
+
+    -- so the judgement decides
+    known-judged : healthBy (keptAt st c) (st .book) ≡ judged (wordOf (w .two) 80 80) (statusOf (w .entry))
+    unfolding healthBy
+    known-judged =
+        rw (there .0, its-slot, w .slot, ne-eqb (inSlot (st .book) n .day) 0 not-empty)
+        (ap₂ judged (ap (λ (x : ℕ). wordOf x 80 80) its-two) (ap statusOf its-entry))
+
+  -- what the station's own answer stands on
+  health-is : (h : Health) → healthBy (keptAt st c) (st .book) ≡ h → ((h ≡ Unknown) × (KnownIn cs c → ⊥)) ⊎ KnownIn cs c
+  unfolding healthBy
+  health-is h = by (hasRecord (keptAt st c)) (isSlot (satelliteOf (keptAt st c))) (isEmpty (st .book) (satelliteOf (keptAt st c))) refl refl refl
+    where
+      none : healthBy (keptAt st c) (st .book) ≡ Unknown → KnownIn cs c → ⊥
+      none q w = not-unknown (wordOf (w .two) 80 80) (statusOf (w .entry)) (sym (known-judged w) ∙ q)
+
+      by : (t u v : Bool) → hasRecord (keptAt st c) ≡ t → isSlot (satelliteOf (keptAt st c)) ≡ u → isEmpty (st .book) (satelliteOf (keptAt st c)) ≡ v
+          → pick (t && (u && not v)) (judged (topOfB (keptAt st c)) (statusOf (meaning (inSlot (st .book) (satelliteOf (keptAt st c)))))) Unknown ≡ h
+          → ((h ≡ Unknown) × (KnownIn cs c → ⊥)) ⊎ KnownIn cs c
+      by true true false a b d q = inr (known-there a b d)
+      by true true true a b d q = inl (sym q, none (rw (a, b, d)))
+      by true false v a b d q = inl (sym q, none (rw (a, b)))
+      by false u v a b d q = inl (sym q, none (rw a))
+
+  -- HEALTH OVER THE CALLS
+  pub health-in : HealthIn cs c (healthBy (keptAt st c) (st .book))
+  health-in =
+      let h = healthBy (keptAt st c) (st .book) in
+      let split = health-is h refl in
+      record {
+        unknown = (
+          (λ q w. not-unknown (wordOf (w .two) 80 80) (statusOf (w .entry)) (sym (known-judged w) ∙ q)),
+          (λ n. ⊎-elim (λ (x : (h ≡ Unknown) × (KnownIn cs c → ⊥)). x .0) (λ (w : KnownIn cs c). absurd (n w)) split),
+        );
+        usable = (
+          (λ q. ⊎-elim (λ (x : (h ≡ Unknown) × (KnownIn cs c → ⊥)). absurd (not-both (sym (x .0) ∙ q)))
+              (λ (w : KnownIn cs c).
+              let j = judged-usable (wordOf (w .two) 80 80) (statusOf (w .entry)) .0 (sym (known-judged w) ∙ q) in
+              record { known = w; top-of-B = j .0; status = j .1 }) split),
+          (λ (u : UsableIn cs c). known-judged (u .known) ∙ judged-usable (wordOf (u .known .two) 80 80) (statusOf (u .known .entry)) .1 (u .top-of-B, u .status)),
+        );
+      }
+
+-- ---- the station that the calls leave, as a function
+pub runs-is : (cs : List Call) (st : Station) → Runs cs st → st ≡ stationOf cs
+unfolding stationOf
+runs-is cs st fresh = refl
+runs-is cs st (offering c epoch s ds before r run o) = o .station ∙ ap (λ (x : Station). stationAfter x c epoch s) (runs-is ds before run)
+runs-is cs st (resetting c ds before r run o) = o .station ∙ ap (λ (x : Station). stationReset x c) (runs-is ds before run)
+
+-- ---- THE DEMANDS
+pub demands : AllDemands
+demands =
+    record {
+      refused = refusal-leaves;
+      no-channel = channel-leaves;
+      answers = answered;
+      every = every-history;
+      made = runs-made;
+      counts = counted;
+      exchange = exchanged;
+      book = book-rule;
+      reordering = reordered;
+      two-cards = two-cards;
+      relock = relocked;
+      health = health-in;
+    }

@@ -1,0 +1,104 @@
+-- Every history can be run (every-history): whatever the calls, there is an answer to each that its contract fits, so the laws of runs are of all
+-- histories.
+-- Assumes nothing.
+use mathlib.Core.Path.{_≡_, refl}
+use mathlib.Core.Bool.{Bool, true, false}
+use mathlib.Core.List.{List, [], _∷_}
+use Prim.Native.Nat.{ℕ, suc}
+use Rattle.strings.specs.Pick.{pick}
+use Rattle.strings.specs.declared.Refusal.{Refusal}
+use Rattle.strings.specs.declared.Refusal.the-variants.{Channel, Shape, Damaged, Idle, Number, Early, Stale, OffBeat, Conflict}
+use Rattle.strings.specs.declared.Verdict.{Verdict}
+use Rattle.strings.specs.declared.Written.{Written}
+use Rattle.strings.specs.declared.Written.the-variants.{Done, Refused as NotWritten}
+use Rattle.strings.specs.Hamming.{ruling}
+use Rattle.strings.specs.Numbers.{refusalPaper, Test, test, answerOf}
+use Rattle.strings.specs.Calls.{writtenPaper}
+use Rattle.words.specs.Calls.{numberIn}
+use Rattle.channel.specs.declared.News.{News}
+use Rattle.channel.specs.declared.Answer.{Answer}
+use Rattle.channel.specs.declared.Answer.the-variants.{Taken, Refused}
+use Rattle.channel.specs.Frame.{newsOf}
+use Rattle.channel.specs.Offers.{answerPaper, toldAs, verdictOf, plainOf, wholeOf}
+use Rattle.station.specs.declared.Station.{Station}
+use Rattle.station.specs.Station.{heldAt, isNoChannel, stationTests, toldIn, stationAfter, OffersTo, stationReset, Resets}
+use Rattle.station.specs.History.{Call, Offer, Reset, Runs, fresh, offering, resetting, stationOf}
+
+-- ---- tests of which each has its refusal
+abbrev Matched : List Test → List Refusal → Type 0
+Matched [] [] = Unit
+Matched [] (q ∷ qs) = ⊥
+Matched (t ∷ ts) [] = ⊥
+Matched (t ∷ ts) (q ∷ qs) = ((k : ℕ) × ((t .number ≡ suc k) × (refusalPaper q ≡ suc k ∷ t .place))) × Matched ts qs
+
+-- an answer that such tests give
+record Told (ts : List Test) (told : List ℕ) : Type 0 where
+  answer : Answer
+  is : answerPaper answer ≡ answerOf ts told
+
+module _ (m : ℕ) (v : Verdict) (w : News) where
+  first-told : (n : ℕ) (p : List ℕ) (ts : List Test) (q : Refusal) → ((k : ℕ) × ((n ≡ suc k) × (refusalPaper q ≡ suc k ∷ p))) → Told ts (toldAs m v w)
+      → (b : Bool) → Told (record { number = n; place = p; fits = b } ∷ ts) (toldAs m v w)
+  first-told n p ts q k later true = record { answer = Refused q; is = rw (k .1 .0) (k .1 .1) }
+  first-told n p ts q k later false = record { answer = later .answer; is = later .is }
+
+  told-by : (ts : List Test) (qs : List Refusal) → Matched ts qs → Told ts (toldAs m v w)
+  told-by [] [] a = record { answer = Taken m v w; is = refl }
+  told-by [] (q ∷ qs) a = absurd a
+  told-by (t ∷ ts) [] a = absurd a
+  told-by (t ∷ ts) (q ∷ qs) a = first-told (t .number) (t .place) ts q (a .0) (told-by ts qs (a .1)) (t .fits)
+
+-- ---- an offer has an answer, and so has a reset
+some-answer : (st : Station) (c epoch : ℕ) (s : List ℕ) → Told (stationTests st c epoch s) (toldIn st c epoch s)
+some-answer st c epoch s =
+    told-by (numberIn (wholeOf s)) (verdictOf (ruling (plainOf s))) (newsOf (heldAt st c) epoch (wholeOf s)) (stationTests st c epoch s)
+    (Channel ∷ Shape ∷ Damaged ∷ Idle ∷ Number ∷ Early ∷ Stale ∷ OffBeat ∷ Conflict ∷ []) (
+      (0, (refl, refl)),
+      (
+        (1, (refl, refl)),
+        (
+          (2, (refl, refl)),
+          (
+            (3, (refl, refl)),
+            (
+              (4, (refl, refl)),
+              (
+                (5, (refl, refl)),
+                (
+                  (6, (refl, refl)),
+                  (
+                    (7, (refl, refl)),
+                    ((8, (refl, refl)), tt),
+                  ),
+                ),
+              ),
+            ),
+          ),
+        ),
+      ),
+    )
+
+offer-answers : (st : Station) (c epoch : ℕ) (s : List ℕ)
+    → OffersTo st c epoch s (record { station = stationAfter st c epoch s; answer = some-answer st c epoch s .answer })
+offer-answers st c epoch s = record { answer = some-answer st c epoch s .is; station = refl }
+
+reset-answer : ℕ → Written
+reset-answer c = pick (isNoChannel c) (NotWritten Channel) Done
+
+reset-answers : (st : Station) (c : ℕ) → Resets st c (record { station = stationReset st c; answer = reset-answer c })
+unfolding reset-answer
+reset-answers st c = record { answer = by (isNoChannel c); station = refl }
+  where
+    by : (t : Bool) → writtenPaper (pick t (NotWritten Channel) Done) ≡ answerOf (test 1 t ∷ []) []
+    by true = refl
+    by false = refl
+
+-- EVERY HISTORY HAS ITS RUN
+pub every-history : (cs : List Call) → Runs cs (stationOf cs)
+unfolding stationOf
+every-history [] = fresh
+every-history (Offer c epoch s ∷ cs) =
+    offering c epoch s cs (stationOf cs) (record { station = stationAfter (stationOf cs) c epoch s; answer = some-answer (stationOf cs) c epoch s .answer })
+    (every-history cs) (offer-answers (stationOf cs) c epoch s)
+every-history (Reset c ∷ cs) =
+    resetting c cs (stationOf cs) (record { station = stationReset (stationOf cs) c; answer = reset-answer c }) (every-history cs) (reset-answers (stationOf cs) c)

@@ -1,0 +1,9 @@
+pub mod Status
+pub mod QueriesOnce
+pub mod OnceOnly
+pub mod ChannelRuns
+pub mod Holding
+pub mod BookRule
+pub mod Reorder
+pub mod EveryHistory
+pub mod Demands

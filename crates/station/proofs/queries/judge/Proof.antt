@@ -1,0 +1,26 @@
+-- `queries::judge` meets its contract: a byte has its top bit where it is at least 128. Assumes nothing.
+use Prim.Native.Nat.{_/_, _%_}
+use native.Mathlib.Omega.{arith}
+use borrow.Author.Tests.{eq-eqb, ne-eqb}
+use Rattle.station.specs.Queries.{judged}
+use Rattle.station.proofs.queries.judge.Statement.{statement}
+use Rattle.station.proofs.queries.judge.Tie as tie
+
+returns : tie.Need-returns
+unfolding judged
+returns c =
+    let a = c .before .before .args in
+    rw (eq-eqb (a .bad) 0 (c .before .if1 .taken), eq-eqb (a .etop / 128 % 2) 1 (omega arith))
+
+returns-2 : tie.Need-returns-2
+unfolding judged
+returns-2 c =
+    let a = c .before .before .args in
+    rw (eq-eqb (a .bad) 0 (c .before .if1 .taken), ne-eqb (a .etop / 128 % 2) 1 (λ e. omega arith))
+
+returns-3 : tie.Need-returns-3
+unfolding judged
+returns-3 c = rw (ne-eqb (c .before .args .bad) 0 (c .if1 .left))
+
+pub judge-spec : {M : Type 1} → statement M
+judge-spec = tie.close (tie.spec returns returns-2 returns-3)

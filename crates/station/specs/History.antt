@@ -1,0 +1,86 @@
+-- The calls made on a station since it was fresh, the latest first, and what they determine by the paper's rules alone. Channels are labels: nothing
+-- here speaks of a row or a station but `Runs` and `stationOf`, which say what the calls leave one after the other. Any bytes of any length, any epoch,
+-- any channel.
+-- Assumes nothing.
+use Prim.Native.Nat.{ℕ}
+use mathlib.Core.Bool.{Bool, true, false, _||_}
+use mathlib.Core.List.{List, [], _∷_}
+use mathlib.Core.Path.{_≡_}
+use lib.Dec.{eqb}
+use Rattle.strings.specs.Pick.{pick}
+use Rattle.book.specs.declared.Shown.the-variants.{At}
+use Rattle.book.specs.Entry.{Three, isBelow, entryOf}
+use Rattle.channel.specs.Shows.{shownAt}
+use Rattle.channel.specs.History.{Call as OnChannel, Offer as OfferIt, Reset as ResetIt, heldAfter, saidTo}
+use Rattle.station.specs.declared.Station.{Station}
+use Rattle.station.specs.declared.Stepped.{Stepped}
+use Rattle.station.specs.declared.Emptied.{Emptied}
+use Rattle.station.specs.Station.{freshStation, isNoChannel, stationAfter, OffersTo, stationReset, Resets}
+
+pub data Call : Type 0 where
+  Offer : (channel epoch : ℕ) → (bytes : List ℕ) → Call
+  Reset : (channel : ℕ) → Call
+
+abbrev pub channelOf : Call → ℕ
+channelOf (Offer c epoch s) = c
+channelOf (Reset c) = c
+
+-- a call without its label
+abbrev pub itself : Call → OnChannel
+itself (Offer c epoch s) = OfferIt epoch s
+itself (Reset c) = ResetIt
+
+-- the calls on one channel
+unfoldable pub callsOn : ℕ → List Call → List OnChannel
+callsOn c [] = []
+callsOn c (call ∷ cs) = pick (eqb (channelOf call) c) (itself call ∷ callsOn c cs) (callsOn c cs)
+
+-- ---- the answer to a call after others, in the paper's numbers: CHANNEL, or what the calls before on its channel determine
+abbrev pub saidOn : OnChannel → List OnChannel → List ℕ
+saidOn (OfferIt epoch s) before = saidTo (heldAfter before) epoch s
+saidOn ResetIt before = 0 ∷ []
+
+unfoldable pub saidAfter : List Call → Call → List ℕ
+saidAfter cs call = pick (isNoChannel (channelOf call)) (1 ∷ []) (saidOn (itself call) (callsOn (channelOf call) cs))
+
+-- ---- what was shown
+-- the parts of a history up to each of its moments
+pub data Part : List OnChannel → List OnChannel → Type 0 where
+  whole : (cs : List OnChannel) → Part cs cs
+  earlier : (now : OnChannel) (part cs : List OnChannel) → Part part cs → Part part (now ∷ cs)
+
+-- the first strings of the pairs
+abbrev pub pairs : List ℕ
+pairs = 6 ∷ 8 ∷ 10 ∷ 12 ∷ 14 ∷ []
+
+abbrev pub isOneOf : List ℕ → ℕ → Bool
+isOneOf [] p = false
+isOneOf (q ∷ qs) p = eqb p q || isOneOf qs p
+
+-- an entry shown for a slot: at a moment, by a channel, as strings 5, p and p+1 of the one frame that this channel then held
+pub record ShownIn (cs : List Call) (slot : ℕ) (t : Three) : Type 0 where
+  pub channel : ℕ
+  pub served : isNoChannel channel ≡ false
+  pub moment : List OnChannel
+  pub within : Part moment (callsOn channel cs)
+  pub pair : ℕ
+  pub named : isOneOf pairs pair ≡ true
+  pub shows : shownAt (heldAfter moment) pair ≡ At slot (entryOf t)
+
+-- the greatest entry shown: "by day, then by the even string's bits 80..9 as a number, then by the odd string's bits 80..10"
+pub record Greatest (cs : List Call) (slot : ℕ) (t : Three) : Type 0 where
+  pub shown : ShownIn cs slot t
+  pub none-above : (u : Three) → ShownIn cs slot u → isBelow t u ≡ false
+
+-- ---- the station that the calls leave, one after the other: each leaves what its contract says
+pub data Runs : List Call → Station → Type 0 where
+  fresh : Runs [] freshStation
+  offering : (c epoch : ℕ) (s : List ℕ) (cs : List Call) (st : Station) (r : Stepped) → Runs cs st → OffersTo st c epoch s r
+      → Runs (Offer c epoch s ∷ cs) (r .station)
+  resetting : (c : ℕ) (cs : List Call) (st : Station) (r : Emptied) → Runs cs st → Resets st c r → Runs (Reset c ∷ cs) (r .station)
+
+-- the same as a function: the station that the calls leave
+unfoldable pub stationOf : List Call → Station
+stationOf [] = freshStation
+stationOf (Offer c epoch s ∷ cs) = stationAfter (stationOf cs) c epoch s
+stationOf (Reset c ∷ cs) = stationReset (stationOf cs) c

@@ -1,0 +1,111 @@
+-- The known strings of the paper ("Known strings and edges"): every row marked there with a star, in the paper's order, as one table. The rows of
+-- strings, words and days are those of the lower layers' tables.
+-- Assumes nothing.
+use Prim.Native.Nat.{ℕ, _+_, _^_}
+use mathlib.Core.Bool.{false}
+use mathlib.Core.List.{[], _∷_}
+use mathlib.Core.Path.{_≡_, refl}
+use lib.IntN.{pos, negsuc}
+use Rattle.strings.specs.declared.Verdict.the-variants.{Clean, Repaired}
+use Rattle.strings.specs.declared.hamming.Damage.the-variants.{Unplaced, Even, Outside}
+use Rattle.strings.specs.declared.hamming.Ruling.the-variants.{Sound, Damaged}
+use Rattle.strings.specs.Number.{numberOf, paddingOf, misshapen, wordOf, flip, stringBytes}
+use Rattle.strings.specs.Relative.{readRelative, writeRelative, inverse}
+use Rattle.strings.specs.Hamming.{position, sumC, sumAll, syndrome, howMany, highest, placed, judge, ruling, mended, encode}
+use Rattle.strings.specs.Numbers.{firstOf, answerOf}
+use Rattle.strings.specs.Known.{A, B, inverseB, zeros, a, known as strings-known}
+use Rattle.words.specs.declared.kinds.Kind.{Kind}
+use Rattle.words.specs.Layout.{word}
+use Rattle.words.specs.Calls.{readTests}
+use Rattle.words.specs.Values.{valueIn, inRange}
+use Rattle.words.specs.Signed.{signedAt}
+use Rattle.words.specs.Known.{known as words-known}
+use Rattle.book.specs.Shows.{dayOf}
+use Rattle.book.specs.Known.{known as days-known}
+use Rattle.station.specs.Station.{freshStation, isNoChannel, stationTests, toldIn}
+
+pub record KnownStrings : Type 0 where
+  -- "A: m = 1, data zero, encoded: bits 81, 8, 7, 5 set; 08 00 00 00 00 00 00 00 00 06 80. Clean."
+  pub A-bits : a ≡ 2 ^ 80 + 2 ^ 7 + 2 ^ 6 + 2 ^ 4
+  pub A-encoded : stringBytes (encode (2 ^ 80)) ≡ A
+  pub A-clean : ruling a ≡ Sound Clean
+  -- "B: A in relative form 0F FF FF FF FF FF FF FF FF FB 00; inverted F0 00 00 00 00 00 00 00 00 04 F8; both read as A."
+  pub B-sent : stringBytes (writeRelative a) ≡ B
+  pub B-inverted : stringBytes (inverse (numberOf B)) ≡ inverseB
+  pub B-read : stringBytes (readRelative (numberOf B)) ≡ A
+  pub B-inverse-read : stringBytes (readRelative (numberOf inverseB)) ≡ A
+  -- "A with bit 9 flipped: S = 3, repaired 9."
+  pub flip-9-S : syndrome (flip a 9) ≡ 3
+  pub flip-9 : ruling (flip a 9) ≡ Sound (Repaired 9)
+  -- "Bit 85: S = 84, repaired 85."
+  pub flip-85-S : syndrome (flip a 85) ≡ 84
+  pub flip-85 : ruling (flip a 85) ≡ Sound (Repaired 85)
+  -- "Bit 5: repaired 5."
+  pub flip-5 : ruling (flip a 5) ≡ Sound (Repaired 5)
+  -- "Bit 8: DAMAGED."
+  pub flip-8 : ruling (flip a 8) ≡ Damaged Unplaced
+  -- "Bits 9, 10: DAMAGED."
+  pub flip-9-10 : ruling (flip (flip a 9) 10) ≡ Damaged Even
+  -- "Bits 85, 9, 8: S = 87, DAMAGED."
+  pub flip-85-9-8-S : syndrome (flip (flip (flip a 85) 9) 8) ≡ 87
+  pub flip-85-9-8 : ruling (flip (flip (flip a 85) 9) 8) ≡ Damaged Outside
+  -- "Eleven zero bytes: clean, then NUMBER": by the check, then by the reader whatever kind is asked, and on any channel of a fresh station at any epoch
+  pub zeros-clean : ruling (numberOf zeros) ≡ Sound Clean
+  pub zeros-number : (k : Kind) → firstOf (readTests zeros k) ≡ 5
+  pub zeros-offered : (c epoch : ℕ) → isNoChannel c ≡ false → answerOf (stationTests freshStation c epoch zeros) (toldIn freshStation c epoch zeros) ≡ 5 ∷ []
+  -- "Five signed bits 10000, 10001, 11111, 01111: 0, -1, -15, 15."
+  pub minus-zero : signedAt 16 0b10000 ≡ pos 0
+  pub minus-one : signedAt 16 0b10001 ≡ negsuc 0
+  pub least : signedAt 16 0b11111 ≡ negsuc 14
+  pub greatest : signedAt 16 0b01111 ≡ pos 15
+  -- "H 31, 25: -1, -7; 14 and 24: RANGE."
+  pub H-31 : valueIn (word 6 14 10) 31 ≡ negsuc 0
+  pub H-25 : valueIn (word 6 14 10) 25 ≡ negsuc 6
+  pub H-14 : inRange (word 6 14 10) (valueIn (word 6 14 10) 14) ≡ false
+  pub H-24 : inRange (word 6 14 10) (valueIn (word 6 14 10) 24) ≡ false
+  -- "N4 6, NA 1461 is day 8766; N4 7, NA 1 is 8767."
+  pub last-day : dayOf 6 1461 ≡ 8766
+  pub next-day : dayOf 7 1 ≡ 8767
+
+-- the two rows that no lower table has
+B-inverted-so : stringBytes (inverse (numberOf B)) ≡ inverseB
+unfolding numberOf stringBytes inverse
+B-inverted-so = refl
+
+zeros-offered-so : (c epoch : ℕ) → isNoChannel c ≡ false → answerOf (stationTests freshStation c epoch zeros) (toldIn freshStation c epoch zeros) ≡ 5 ∷ []
+unfolding numberOf paddingOf misshapen wordOf readRelative position sumC sumAll syndrome howMany highest placed judge ruling mended
+zeros-offered-so c epoch served = rw served refl
+
+pub known-strings : KnownStrings
+known-strings =
+    record {
+      A-bits = strings-known .A-bits;
+      A-encoded = strings-known .A-encoded;
+      A-clean = strings-known .A-clean;
+      B-sent = strings-known .B-sent;
+      B-inverted = B-inverted-so;
+      B-read = strings-known .B-read;
+      B-inverse-read = strings-known .B-inverse-read;
+      flip-9-S = strings-known .flip-9-S;
+      flip-9 = strings-known .flip-9;
+      flip-85-S = strings-known .flip-85-S;
+      flip-85 = strings-known .flip-85;
+      flip-5 = strings-known .flip-5;
+      flip-8 = strings-known .flip-8;
+      flip-9-10 = strings-known .flip-9-10;
+      flip-85-9-8-S = strings-known .flip-85-9-8-S;
+      flip-85-9-8 = strings-known .flip-85-9-8;
+      zeros-clean = strings-known .zeros-clean;
+      zeros-number = words-known .zeros-number;
+      zeros-offered = zeros-offered-so;
+      minus-zero = words-known .minus-zero;
+      minus-one = words-known .minus-one;
+      least = words-known .least;
+      greatest = words-known .greatest;
+      H-31 = words-known .H-31;
+      H-25 = words-known .H-25;
+      H-14 = words-known .H-14;
+      H-24 = words-known .H-24;
+      last-day = days-known .last-day;
+      next-day = days-known .next-day;
+    }

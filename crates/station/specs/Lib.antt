@@ -1,0 +1,6 @@
+pub mod Station
+pub mod Queries
+pub mod History
+pub mod Demands
+pub mod Witness
+pub mod Known

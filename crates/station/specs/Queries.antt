@@ -1,0 +1,118 @@
+-- What a station answers when it is asked (the paper: "Queries: 1 or 14, then 13", and "Health").
+-- Assumes nothing.
+use Prim.Native.Nat.{ℕ, _*_, _^_}
+use mathlib.Core.Bool.{Bool, not, _&&_}
+use mathlib.Core.List.{List, [], _∷_}
+use mathlib.Core.Path.{_≡_}
+use lib.Dec.{eqb, leb}
+use Rattle.strings.specs.Pick.{pick}
+use Rattle.strings.specs.Number.{wordOf}
+use Rattle.strings.specs.Numbers.{refusalPaper, Test, test, answerOf}
+use Rattle.words.specs.declared.records.ImmediateWords.{ImmediateWords}
+use Rattle.words.specs.Records.{stringAt, immediateOf}
+use Rattle.book.specs.declared.Entry.{Entry}
+use Rattle.book.specs.declared.Book.{Book}
+use Rattle.book.specs.Entry.{Three, meaning}
+use Rattle.book.specs.Book.{inSlot}
+use Rattle.channel.specs.declared.Immediate.{Immediate}
+use Rattle.channel.specs.declared.Tallies.{Tallies}
+use Rattle.channel.specs.Row.{hasRecord}
+use Rattle.station.specs.declared.Station.{Station}
+use Rattle.station.specs.declared.Health.{Health}
+use Rattle.station.specs.declared.Health.the-variants.{Unknown, Usable, NotUsable}
+use Rattle.station.specs.declared.RecordFound.{RecordFound}
+use Rattle.station.specs.declared.RecordFound.the-variants.{Found as FoundRecord, Refused as NoRecord}
+use Rattle.station.specs.declared.EntryFound.{EntryFound}
+use Rattle.station.specs.declared.EntryFound.the-variants.{Found as FoundEntry, Refused as NoEntry}
+use Rattle.station.specs.declared.TalliesFound.{TalliesFound}
+use Rattle.station.specs.declared.TalliesFound.the-variants.{Found as FoundTallies, Refused as NoTallies}
+use Rattle.station.specs.declared.HealthFound.{HealthFound}
+use Rattle.station.specs.declared.HealthFound.the-variants.{Found as FoundHealth, Refused as NoHealth}
+use Rattle.station.specs.Station.{rowAt, isNoChannel}
+
+-- ---- the immediate record: 1, 13
+abbrev pub keptAt : Station → ℕ → Immediate
+keptAt st c = rowAt st c .immediate
+
+-- NOTHING: "record or entry asked for is absent"
+abbrev pub recordTests : Station → ℕ → List Test
+recordTests st c = test 1 (isNoChannel c) ∷ test 13 (not (hasRecord (keptAt st c))) ∷ []
+
+abbrev pub recordPaper : RecordFound → List ℕ
+recordPaper (FoundRecord w) = 0 ∷ []
+recordPaper (NoRecord q) = refusalPaper q
+
+-- and where it is there, its words
+pub record FindsRecord (st : Station) (c : ℕ) (r : RecordFound) : Type 0 where
+  pub answer : recordPaper r ≡ answerOf (recordTests st c) []
+  pub words : (w : ImmediateWords) → r ≡ FoundRecord w → w ≡ immediateOf (keptAt st c .strings)
+
+-- ---- an entry: 14, 13
+-- SLOT: "slot not 1..24"
+abbrev pub isSlot : ℕ → Bool
+isSlot k = leb 1 k && leb k 24
+
+-- a slot is empty where its day is 0
+abbrev pub isEmpty : Book → ℕ → Bool
+isEmpty b k = eqb (inSlot b k .day) 0
+
+abbrev pub entryTests : Station → ℕ → List Test
+entryTests st k = test 14 (not (isSlot k)) ∷ test 13 (isEmpty (st .book) k) ∷ []
+
+-- an entry in three numbers: its day, the even string's bits 80..9 and the odd string's bits 80..10
+abbrev pub threeNumbers : Three → List ℕ
+threeNumbers t = t .day ∷ t .even ∷ t .odd ∷ []
+
+abbrev pub entryPaper : EntryFound → List ℕ
+entryPaper (FoundEntry e) = 0 ∷ threeNumbers (meaning e)
+entryPaper (NoEntry q) = refusalPaper q
+
+pub record FindsEntry (st : Station) (k : ℕ) (r : EntryFound) : Type 0 where
+  pub answer : entryPaper r ≡ answerOf (entryTests st k) (threeNumbers (meaning (inSlot (st .book) k)))
+  pub entry : (e : Entry) → r ≡ FoundEntry e → e ≡ inSlot (st .book) k
+
+-- ---- the tallies: 1
+abbrev pub fourCounts : Tallies → List ℕ
+fourCounts t = t .offered ∷ t .clean ∷ t .repaired ∷ t .refused ∷ []
+
+abbrev pub talliesPaper : TalliesFound → List ℕ
+talliesPaper (FoundTallies t) = 0 ∷ fourCounts t
+talliesPaper (NoTallies q) = refusalPaper q
+
+unfoldable pub FindsTallies : Station → ℕ → TalliesFound → Type 0
+FindsTallies st c r = talliesPaper r ≡ answerOf (test 1 (isNoChannel c) ∷ []) (fourCounts (rowAt st c .tallies))
+
+-- ---- health: 1
+-- "the top bit of B": bit 80 of string 2
+abbrev pub topOfB : Immediate → ℕ
+topOfB i = wordOf (stringAt (i .strings) 1) 80 80
+
+-- "its n": string 4, bits 11-15
+abbrev pub satelliteOf : Immediate → ℕ
+satelliteOf i = wordOf (stringAt (i .strings) 3) 15 11
+
+-- C of an entry: bit 80 of its even string
+abbrev pub statusOf : Three → ℕ
+statusOf t = wordOf (t .even * 2 ^ 8) 80 80
+
+-- "usable if the record has the top bit of B at 0 and the entry has C = 1, and not usable if either fails"
+unfoldable pub judged : ℕ → ℕ → Health
+judged b c = pick (eqb b 0 && eqb c 1) Usable NotUsable
+
+-- "Without a record, or without a book entry for its n, a channel's satellite is unknown"
+unfoldable pub healthBy : Immediate → Book → Health
+healthBy i b =
+    pick (hasRecord i && (isSlot (satelliteOf i) && not (isEmpty b (satelliteOf i)))) (judged (topOfB i) (statusOf (meaning (inSlot b (satelliteOf i))))) Unknown
+
+-- 0 unknown, 1 usable, 2 not usable
+abbrev pub healthNumber : Health → ℕ
+healthNumber Unknown = 0
+healthNumber Usable = 1
+healthNumber NotUsable = 2
+
+abbrev pub healthPaper : HealthFound → List ℕ
+healthPaper (FoundHealth h) = 0 ∷ healthNumber h ∷ []
+healthPaper (NoHealth q) = refusalPaper q
+
+unfoldable pub FindsHealth : Station → ℕ → HealthFound → Type 0
+FindsHealth st c r = healthPaper r ≡ answerOf (test 1 (isNoChannel c) ∷ []) (healthNumber (healthBy (keptAt st c) (st .book)) ∷ [])

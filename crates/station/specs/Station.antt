@@ -1,0 +1,73 @@
+-- A station: 24 rows and one book, and what an offer and a reset make of it (the paper, "Frames and the book" and "Numbers that say no"). For every
+-- station value.
+-- Assumes nothing.
+use Prim.Native.Nat.{ℕ}
+use mathlib.Core.Bool.{Bool}
+use mathlib.Core.List.{List, [], _∷_}
+use mathlib.Core.Path.{_≡_}
+use lib.Dec.{ltb}
+use lib.ListN.{getD, set, replicate}
+use Rattle.strings.specs.Pick.{pick}
+use Rattle.strings.specs.Hamming.{ruling}
+use Rattle.strings.specs.Numbers.{Test, test, answerOf}
+use Rattle.strings.specs.Calls.{writtenPaper}
+use Rattle.book.specs.declared.Book.{Book}
+use Rattle.book.specs.Book.{emptyBook}
+use Rattle.channel.specs.declared.Row.{Row}
+use Rattle.channel.specs.Tallies.{noneCounted}
+use Rattle.channel.specs.Frame.{Frame}
+use Rattle.channel.specs.Row.{frameOf, emptyRow}
+use Rattle.channel.specs.Offers.{answerPaper, toldOf, verdictOf, plainOf, wholeOf, offerTests, offeredRow, storesIt}
+use Rattle.channel.specs.Shows.{showsOf, brought}
+use Rattle.station.specs.declared.Station.{Station}
+use Rattle.station.specs.declared.Stepped.{Stepped}
+use Rattle.station.specs.declared.Emptied.{Emptied}
+
+-- "A fresh station is all empty"
+unfoldable pub freshStation : Station
+freshStation = record { rows = replicate 24 emptyRow; book = emptyBook }
+
+-- past the 24 rows stands a row of nothing, which no call looks at
+unfoldable pub noRow : Row
+noRow = record { strings = []; start = 0; present = 0; immediate = record { strings = [] }; tallies = noneCounted }
+
+-- a channel's row, and the frame that it holds
+abbrev pub rowAt : Station → ℕ → Row
+rowAt st c = getD (st .rows) c noRow
+
+abbrev pub heldAt : Station → ℕ → Frame
+heldAt st c = frameOf (rowAt st c)
+
+-- CHANNEL: "channel above 23"
+abbrev pub isNoChannel : ℕ → Bool
+isNoChannel c = ltb 23 c
+
+-- ---- an offer: "tested in the order 1 to 9"
+abbrev pub stationTests : Station → ℕ → ℕ → List ℕ → List Test
+stationTests st c epoch s = test 1 (isNoChannel c) ∷ offerTests (heldAt st c) epoch s
+
+-- "A taken offer answers m, a verdict .. and news"
+abbrev pub toldIn : Station → ℕ → ℕ → List ℕ → List ℕ
+toldIn st c epoch s = toldOf (heldAt st c) epoch (wholeOf s) (verdictOf (ruling (plainOf s)))
+
+-- "Each string newly stored brings all entries that its frame then shows to the book; one already held changes only tallies"
+abbrev pub bookAfter : Book → Row → ℕ → List ℕ → Book
+bookAfter b row epoch s = pick (storesIt (frameOf row) epoch s) (brought b (showsOf (frameOf (offeredRow row epoch s)))) b
+
+-- "CHANNEL changes nothing at all"; any other offer changes its channel's row, and the book
+unfoldable pub stationAfter : Station → ℕ → ℕ → List ℕ → Station
+stationAfter st c epoch s =
+    pick (isNoChannel c) st
+    (record { rows = set (st .rows) c (offeredRow (rowAt st c) epoch s); book = bookAfter (st .book) (rowAt st c) epoch s })
+
+pub record OffersTo (st : Station) (c epoch : ℕ) (s : List ℕ) (r : Stepped) : Type 0 where
+  pub answer : answerPaper (r .answer) ≡ answerOf (stationTests st c epoch s) (toldIn st c epoch s)
+  pub station : r .station ≡ stationAfter st c epoch s
+
+-- ---- "Reset: 1". "A reset empties the row, record and tallies; the book stays"
+unfoldable pub stationReset : Station → ℕ → Station
+stationReset st c = pick (isNoChannel c) st (record { rows = set (st .rows) c emptyRow; book = st .book })
+
+pub record Resets (st : Station) (c : ℕ) (r : Emptied) : Type 0 where
+  pub answer : writtenPaper (r .answer) ≡ answerOf (test 1 (isNoChannel c) ∷ []) []
+  pub station : r .station ≡ stationReset st c

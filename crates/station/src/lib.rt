@@ -1,0 +1,72 @@
+// The station: 24 rows and one book. Strings go in by channel; the book, the records, the tallies and
+// the health of a satellite come out.
+mod offering;
+mod queries;
+
+use book::Book;
+use book::Entry;
+use channel::Answer;
+use channel::Row;
+use channel::Tallies;
+pub use offering::fresh;
+pub use offering::offer;
+pub use offering::reset;
+pub use queries::entry_of;
+pub use queries::health_of;
+pub use queries::immediate_of;
+pub use queries::tallies_of;
+use strings::Refusal;
+use strings::Written;
+use words::ImmediateWords;
+
+// How many channels a station has.
+pub const CHANNELS: usize = 24;
+
+// All that the card knows: a row for each channel, and the almanac book that they share.
+pub struct Station {
+    pub rows: [Row; CHANNELS],
+    pub book: Book,
+}
+
+// An offer's answer, and the station after it.
+pub struct Stepped {
+    pub station: Station,
+    pub answer: Answer,
+}
+
+// A reset's answer, and the station after it.
+pub struct Emptied {
+    pub station: Station,
+    pub answer: Written,
+}
+
+// The words of a channel's immediate record, or why not.
+pub enum RecordFound {
+    Found(ImmediateWords),
+    Refused(Refusal),
+}
+
+// The entry of a slot, or why not.
+pub enum EntryFound {
+    Found(Entry),
+    Refused(Refusal),
+}
+
+// A channel's tallies, or why not.
+pub enum TalliesFound {
+    Found(Tallies),
+    Refused(Refusal),
+}
+
+// The health of a channel's satellite.
+pub enum Health {
+    Unknown,
+    Usable,
+    NotUsable,
+}
+
+// The health, or why not.
+pub enum HealthFound {
+    Found(Health),
+    Refused(Refusal),
+}

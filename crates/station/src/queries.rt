@@ -1,0 +1,114 @@
+// The calls that ask a station.
+use crate::EntryFound;
+use crate::Health;
+use crate::HealthFound;
+use crate::RecordFound;
+use crate::Station;
+use crate::TalliesFound;
+use book::Book;
+use book::entry_in;
+use channel::Immediate;
+use channel::has_record;
+use strings::Refusal;
+use words::immediate_words;
+use words::word_in;
+ghost use mathlib.Core.Path.{_≡_};
+ghost use Prim.Native.Nat.{_/_, _%_};
+ghost use Rattle.station.specs.Queries.{FindsRecord, FindsEntry, FindsTallies, FindsHealth, healthBy, judged};
+
+// The words of a channel's immediate record.
+pub fn immediate_of(st: Station, channel: u8) -> RecordFound
+    ensures { λ r. ⌜ FindsRecord st channel r ⌝ }
+{
+    if 23 < channel {
+        return RecordFound::Refused(Refusal::Channel);
+    }
+    let i = channel as usize;
+    let row = st.rows[i];
+    let four = row.immediate;
+    if !has_record(four) {
+        return RecordFound::Refused(Refusal::Nothing);
+    }
+    let s = four.strings;
+    RecordFound::Found(immediate_words(s))
+}
+
+// The entry of a slot; the book's slots are 1 to 24.
+pub fn entry_of(st: Station, slot: u8) -> EntryFound
+    ensures { λ r. ⌜ FindsEntry st slot r ⌝ }
+{
+    if slot == 0 {
+        return EntryFound::Refused(Refusal::Slot);
+    }
+    if 24 < slot {
+        return EntryFound::Refused(Refusal::Slot);
+    }
+    let b = st.book;
+    let e = entry_in(b, slot);
+    if e.day == 0 {
+        return EntryFound::Refused(Refusal::Nothing);
+    }
+    EntryFound::Found(e)
+}
+
+// A channel's tallies.
+pub fn tallies_of(st: Station, channel: u8) -> TalliesFound
+    ensures { λ r. ⌜ FindsTallies st channel r ⌝ }
+{
+    if 23 < channel {
+        return TalliesFound::Refused(Refusal::Channel);
+    }
+    let i = channel as usize;
+    let row = st.rows[i];
+    let t = row.tallies;
+    TalliesFound::Found(t)
+}
+
+// The health of the satellite that a channel's record is of.
+pub fn health_of(st: Station, channel: u8) -> HealthFound
+    ensures { λ r. ⌜ FindsHealth st channel r ⌝ }
+{
+    if 23 < channel {
+        return HealthFound::Refused(Refusal::Channel);
+    }
+    let i = channel as usize;
+    let row = st.rows[i];
+    let kept = row.immediate;
+    let b = st.book;
+    HealthFound::Found(health_by(kept, b))
+}
+
+// Without a record, or without a book entry for its n, it is unknown.
+fn health_by(kept: Immediate, b: Book) -> Health
+    ensures { λ r. ⌜ r ≡ healthBy kept b ⌝ }
+{
+    if !has_record(kept) {
+        return Health::Unknown;
+    }
+    let s = kept.strings;
+    let n = word_in(&s[33..44], 15, 11);
+    if n == 0 {
+        return Health::Unknown;
+    }
+    if 24 < n {
+        return Health::Unknown;
+    }
+    let e = entry_in(b, n as u8);
+    if e.day == 0 {
+        return Health::Unknown;
+    }
+    let bad = word_in(&s[11..22], 80, 80);
+    judge(bad, e.etop)
+}
+
+// By the top bit of B, and by C, the top bit of the entry's even half.
+fn judge(bad: u64, etop: u8) -> Health
+    ensures { λ r. ⌜ r ≡ judged bad (etop / 128 % 2) ⌝ }
+{
+    if bad == 0 {
+        if 128 <= etop {
+            return Health::Usable;
+        }
+    }
+    Health::NotUsable
+}
