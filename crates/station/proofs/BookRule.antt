@@ -272,24 +272,24 @@ module _ (c epoch : ℕ) (s : List ℕ) (cs : List Call) (st : Station) (run : R
   held-next =
       frame-after (rowAt st c) epoch s (runs-long (callsOn c cs) (rowAt st c) (in-step cs st run .run c e)) ∙ ap (λ (f : Frame). frameAfter f epoch s) held
 
+  -- all that its frame then shows is brought
+  stored-holds : (next : Station) → next .book ≡ brought (st .book) (showsOf (frameOf (offeredRow (rowAt st c) epoch s))) → BookHolds (Offer c epoch s ∷ cs) next
+  stored-holds next q =
+      let b : next .book ≡ brought (st .book) (showsOf (heldAfter (OfferIt epoch s ∷ callsOn c cs))) = q ∙ ap (λ (f : Frame). brought (st .book) (showsOf f)) held-next in
+      record {
+        full = subst Full (sym b) (brought-full (showsOf (heldAfter (OfferIt epoch s ∷ callsOn c cs))) (st .book) (h .full));
+        holds = λ k l m. subst (λ (x : Book). Holding (ShownIn (Offer c epoch s ∷ cs) k) (inSlot x k)) (sym b)
+            (holding-stored (Offer c epoch s) cs k (st .book) l m e (h .full) (h .holds k l m));
+      }
+
+  -- by whether the string was newly stored
+  chosen : (next : Station) (t : Bool) → storesIt (frameOf (rowAt st c)) epoch s ≡ t
+      → next .book ≡ pick t (brought (st .book) (showsOf (frameOf (offeredRow (rowAt st c) epoch s)))) (st .book) → BookHolds (Offer c epoch s ∷ cs) next
+  chosen next true w q = stored-holds next q
+  chosen next false w q = book-quiet (Offer c epoch s) cs st next q (λ k. quiet-offer c epoch s cs k (ap (λ (f : Frame). storesIt f epoch s) (sym held) ∙ w)) h
+
   offer-holds : (next : Station) → next .book ≡ bookAfter (st .book) (rowAt st c) epoch s → BookHolds (Offer c epoch s ∷ cs) next
-  offer-holds next q = by (storesIt (frameOf (rowAt st c)) epoch s) refl
-    where
-      by : (t : Bool) → storesIt (frameOf (rowAt st c)) epoch s ≡ t → BookHolds (Offer c epoch s ∷ cs) next
-      by true w =
-          let b : next .book ≡ brought (st .book) (showsOf (heldAfter (OfferIt epoch s ∷ callsOn c cs))) =
-          q ∙ ap (λ (t : Bool). pick t (brought (st .book) (showsOf (frameOf (offeredRow (rowAt st c) epoch s)))) (st .book)) w
-          ∙ ap (λ (f : Frame). brought (st .book) (showsOf f)) held-next
-          in
-          record {
-            full = subst Full (sym b) (brought-full (showsOf (heldAfter (OfferIt epoch s ∷ callsOn c cs))) (st .book) (h .full));
-            holds = λ k l m. subst (λ (x : Book). Holding (ShownIn (Offer c epoch s ∷ cs) k) (inSlot x k)) (sym b)
-                (holding-stored (Offer c epoch s) cs k (st .book) l m e (h .full) (h .holds k l m));
-          }
-      by false w =
-          book-quiet (Offer c epoch s) cs st next
-          (q ∙ ap (λ (t : Bool). pick t (brought (st .book) (showsOf (frameOf (offeredRow (rowAt st c) epoch s)))) (st .book)) w)
-          (λ k. quiet-offer c epoch s cs k (ap (λ (f : Frame). storesIt f epoch s) (sym held) ∙ w)) h
+  offer-holds next q = chosen next (storesIt (frameOf (rowAt st c)) epoch s) refl q
 
 step-book : (c epoch : ℕ) (s : List ℕ) (cs : List Call) (st : Station) (r : Stepped) → Runs cs st → BookHolds cs st → OffersTo st c epoch s r
     → BookHolds (Offer c epoch s ∷ cs) (r .station)
