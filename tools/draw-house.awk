@@ -1,5 +1,5 @@
 # draw-house.awk: the crates and what each uses, from lines of "crate CRATE LAYER SRC SPECS PROOFS WHAT-IT-IS" and
-# "uses CRATE CRATE". What it is stands beside a crate that has its layer for itself.
+# "uses CRATE CRATE". A use that follows from others is left out. What a crate is stands beside a layer of one or two.
 BEGIN { wide = 168; tall = 58; gap = 26; up = 96; left = 20 }
 $1 == "crate" {
     name[++n] = $2; layer[$2] = $3; text[$2] = $4 " source, " $5 " specs, " $6 " proofs"
@@ -14,22 +14,21 @@ function cx(c) { return left + (place[c] - 1) * (wide + gap) + wide / 2 }
 function cy(c) { return 20 + (highest - layer[c]) * up }
 
 END {
+    # a crate comes after all that it uses, so what those reach is known by then
     for (e = 1; e <= edges; e++) {
-        a = from[e]; b = to[e]
-        step = layer[a] - layer[b]
-        if (step == 1)
-            printf "<path class=\"next\" d=\"M %d %d L %d %d\"/>\n", cx(a), cy(a) + tall, cx(b), cy(b)
-        else {
-            out = wide / 2 + (step - 1) * 60
-            printf "<path class=\"far\" d=\"M %d %d C %d %d, %d %d, %d %d\"/>\n", \
-                cx(a) + wide / 2 - 14, cy(a) + tall, cx(a) + out, cy(a) + tall + 30, cx(b) + out, cy(b) - 30, cx(b) + wide / 2 - 14, cy(b)
-        }
+        reaches[from[e], to[e]] = 1
+        for (i = 1; i <= n; i++) if (reaches[to[e], name[i]]) { reaches[from[e], name[i]] = 1; follows[from[e], name[i]] = 1 }
     }
+    for (e = 1; e <= edges; e++)
+        if (!follows[from[e], to[e]])
+            printf "<path d=\"M %d %d L %d %d\"/>\n", cx(from[e]), cy(from[e]) + tall, cx(to[e]), cy(to[e])
     for (i = 1; i <= n; i++) {
         c = name[i]
         printf "<rect class=\"crate\" x=\"%d\" y=\"%d\" width=\"%d\" height=\"%d\" rx=\"6\"/>\n", cx(c) - wide / 2, cy(c), wide, tall
         printf "<text class=\"name\" x=\"%d\" y=\"%d\">%s</text>\n", cx(c), cy(c) + 24, c
         printf "<text class=\"size\" x=\"%d\" y=\"%d\">%s</text>\n", cx(c), cy(c) + 43, text[c]
-        if (count[layer[c]] == 1) printf "<text class=\"about\" x=\"500\" y=\"%d\">%s</text>\n", cy(c) + 33, about[c]
+        if (count[layer[c]] <= 2)
+            printf "<text class=\"about\" x=\"%d\" y=\"%d\">%s</text>\n", left + 30 + count[layer[c]] * (wide + gap), \
+                cy(c) + (count[layer[c]] == 1 ? 33 : 2 + 22 * place[c]), (count[layer[c]] == 1 ? "" : c ": ") about[c]
     }
 }

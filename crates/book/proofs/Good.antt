@@ -7,9 +7,9 @@ use native.Mathlib.Omega.{arith}
 use borrow.Author.Tests.{ne-eqb, leb-true}
 use lib.Dec.{eqb, leb, lit≤}
 use Rattle.strings.specs.Pick.{pick}
-use Rattle.words.specs.declared.kinds.Kind.{Kind}
+use Rattle.records.specs.declared.kinds.Kind.{Kind}
 use Rattle.words.proofs.Ranges.{readable, mayFail, reading-fails}
-use Rattle.words.specs.declared.kinds.Kind.the-variants.{Five, Even, Odd}
+use Rattle.records.specs.declared.kinds.Kind.the-variants.{Five, Even, Odd}
 use Rattle.book.specs.Shows.{isGood, isShown, fourYears, dayInFour, slotIn}
 
 -- of a kind that has a word that can be out of range

@@ -12,10 +12,10 @@ use borrow.Author.Tests.{eqb-true, eqb-false, ltb-true, ltb-false}
 use lib.Dec.{eqb, ltb, leb}
 use lib.ListN.{length, getD, set, replicate, length-set}
 use lib.Pow.{pow-pos}
-use lib.Seq.{set-out, set-set, set-comm, getD-set-same, getD-set-other}
+use lib.Seq.{set-out, set-set, set-comm, getD-set-same, getD-set-other, set-getD}
 use Rattle.strings.specs.Pick.{pick}
 use Rattle.strings.specs.Number.{wordOf}
-use Rattle.words.specs.declared.kinds.Kind.the-variants.{Five, Even, Odd}
+use Rattle.records.specs.declared.kinds.Kind.the-variants.{Five, Even, Odd}
 use Rattle.words.proofs.WordBits.{word-lt}
 use Rattle.book.specs.declared.Entry.{Entry}
 use Rattle.book.specs.declared.Book.{Book}
@@ -23,7 +23,7 @@ use Rattle.book.specs.declared.Shown.{Shown}
 use Rattle.book.specs.declared.Shown.the-variants.{Nothing, At}
 use Rattle.book.specs.Entry.{meaning, entryOf, greater, blank}
 use Rattle.book.specs.Shows.{isGood, isShown, fourYears, slotIn, dayOf, threeOf, shownBy}
-use Rattle.book.specs.Book.{inSlot, emptyBook, joined, joinedShown}
+use Rattle.book.specs.Book.{inSlot, emptyBook, joined, joinedShown, placeIn, joinedEntry}
 use Rattle.book.proofs.Order.{Fits, greater-swap, greater-again, meaning-entry}
 use Rattle.book.proofs.Good.{both, shown-is, day-read, slot-read}
 
@@ -138,6 +138,12 @@ shown-full b s h = shown-long b s ∙ h
 pub shown-nothing : (b : Book) → joinedShown b Nothing ≡ b
 unfolding joinedShown
 shown-nothing b = refl
+
+-- joined in where it stands: one entry is set, and the rest stay
+pub shown-in-place : (b : Book) (s : Shown) → record { entries = set (b .entries) (placeIn s) (joinedEntry (getD (b .entries) (placeIn s) blank) s) } ≡ joinedShown b s
+unfolding joinedShown joined joinedEntry
+shown-in-place b Nothing = ap bookOf (set-getD (b .entries) 0 blank)
+shown-in-place b (At k e) = refl
 
 pub shown-slot : (b : Book) (k : ℕ) (e : Entry) → Full b → 1 ≤ k → k ≤ 24 → inSlot (joinedShown b (At k e)) k ≡ greater (inSlot b k) e
 unfolding joinedShown

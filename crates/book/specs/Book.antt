@@ -1,6 +1,6 @@
 -- The book of 24 slots (the paper, "Frames and the book").
 -- Assumes nothing.
-use Prim.Native.Nat.{ℕ, _-_}
+use Prim.Native.Nat.{ℕ, _-_, _≤_}
 use lib.ListN.{getD, set, replicate}
 use Rattle.book.specs.declared.Entry.{Entry}
 use Rattle.book.specs.declared.Book.{Book}
@@ -23,3 +23,17 @@ joined b k e = record { entries = set (b .entries) (k - 1) (greater (inSlot b k)
 unfoldable pub joinedShown : Book → Shown → Book
 joinedShown b Nothing = b
 joinedShown b (At k e) = joined b k e
+
+-- what is shown is for one of the slots
+abbrev pub InBook : Shown → Type 0
+InBook Nothing = Unit
+InBook (At k e) = (1 ≤ k) × (k ≤ 24)
+
+-- the same in its place: where it stands among the entries, the first where nothing is shown, and what stands there afterwards
+abbrev pub placeIn : Shown → ℕ
+placeIn Nothing = 0
+placeIn (At k e) = k - 1
+
+unfoldable pub joinedEntry : Entry → Shown → Entry
+joinedEntry old Nothing = old
+joinedEntry old (At k e) = greater old e

@@ -4,12 +4,12 @@ use Prim.Native.Nat.{ℕ, _+_, _*_, _/_, _%_, _^_}
 use mathlib.Core.Bool.{Bool, _&&_, _||_}
 use lib.Dec.{eqb, ltb}
 use Rattle.strings.specs.Pick.{pick}
-use Rattle.words.specs.declared.kinds.Kind.the-variants.{Even, Odd}
-use Rattle.words.specs.declared.records.EvenString.{EvenString}
-use Rattle.words.specs.declared.records.OddString.{OddString}
+use Rattle.records.specs.declared.kinds.Kind.the-variants.{Even, Odd}
+use Rattle.records.specs.declared.named.EvenString.{EvenString}
+use Rattle.records.specs.declared.named.OddString.{OddString}
 use Rattle.words.specs.Layout.{layout}
 use Rattle.words.specs.Values.{valuesOf}
-use Rattle.words.specs.Records.{evenOf, oddOf}
+use Rattle.records.specs.Records.{evenOf, oddOf}
 use Rattle.book.specs.declared.Entry.{Entry}
 
 -- the three numbers of an entry: its day, the even string's bits 80..9 and the odd string's bits 80..10

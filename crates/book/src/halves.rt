@@ -1,11 +1,11 @@
 // The words of an entry.
 use crate::Entry;
-use words::EvenString;
-use words::Kind;
-use words::OddString;
+use records::EvenString;
+use records::Kind;
+use records::OddString;
+use records::even_of;
+use records::odd_of;
 use words::add_at;
-use words::even_of;
-use words::odd_of;
 use words::values_in;
 ghost use mathlib.Core.Path.{_≡_};
 ghost use Rattle.book.specs.Entry.{meaning, evenWords, oddWords};

@@ -8,10 +8,12 @@ pub use halves::odd_words;
 pub use pages::empty_book;
 pub use pages::entry_in;
 pub use pages::join;
+pub use pages::place_of;
 pub use showing::shown_by;
 
 // An entry: its day, the even string's bits 80..9 (etop the eight highest, even the rest) and the
 // odd string's bits 80..10 (otop the seven highest, odd the rest). Day 0 is no entry.
+#[repr(C)]
 pub struct Entry {
     pub even: u64,
     pub odd: u64,
@@ -29,6 +31,7 @@ pub enum Shown {
 // How many slots a book has.
 pub const SLOTS: usize = 24;
 
+#[repr(C)]
 pub struct Book {
     pub entries: [Entry; SLOTS],
 }

@@ -2,10 +2,11 @@
 use crate::Book;
 use crate::Entry;
 use crate::SLOTS;
+use crate::Shown;
 ghost use mathlib.Core.Path.{_≡_};
-ghost use Prim.Native.Nat.{_≤_};
+ghost use Prim.Native.Nat.{_≤_, _<_};
 ghost use Rattle.book.specs.Entry.{isBelow, meaning, greater};
-ghost use Rattle.book.specs.Book.{inSlot, emptyBook, joined};
+ghost use Rattle.book.specs.Book.{inSlot, emptyBook, InBook, placeIn, joinedEntry};
 
 // A book with no entry.
 pub fn empty_book() -> Book
@@ -58,14 +59,24 @@ fn greater_of(a: Entry, b: Entry) -> Entry
     if is_below(a, b) { b } else { a }
 }
 
-// Joins an entry in: its slot keeps the greater.
-pub fn join(mut b: Book, slot: u8, e: Entry) -> Book
-    requires { ⌜ (1 ≤ slot) × (slot ≤ 24) ⌝ }
-    ensures { λ r. ⌜ r ≡ joined b slot e ⌝ }
+// The place of what is shown among the book's entries: its slot's, and the first where nothing is
+// shown.
+pub fn place_of(s: Shown) -> usize
+    requires { ⌜ InBook s ⌝ }
+    ensures { λ r. ⌜ (r ≡ placeIn s) × (r < 24) ⌝ }
 {
-    let at = (slot - 1) as usize;
-    let old = b.entries[at];
-    let new = greater_of(old, e);
-    b.entries[at] = new;
-    b
+    match s {
+        Shown::Nothing => 0,
+        Shown::At(slot, _) => (slot - 1) as usize,
+    }
+}
+
+// What stands in that place when it is joined in: the greater, or what stood there.
+pub fn join(old: Entry, s: Shown) -> Entry
+    ensures { λ r. ⌜ r ≡ joinedEntry old s ⌝ }
+{
+    match s {
+        Shown::Nothing => old,
+        Shown::At(_, e) => greater_of(old, e),
+    }
 }

@@ -8,7 +8,7 @@ ghost use Prim.Native.Nat.{_≤_};
 ghost use lib.Dec.{leb};
 ghost use lib.ListN.{length};
 ghost use Rattle.strings.specs.Number.{numberOf, wordOf};
-ghost use Rattle.words.specs.declared.kinds.Kind.the-variants.{Five, Even, Odd};
+ghost use Rattle.records.specs.declared.kinds.Kind.the-variants.{Five, Even, Odd};
 ghost use Rattle.book.specs.Entry.{entryOf};
 ghost use Rattle.book.specs.Shows.{isGood, fourYears, dayInFour, slotIn, threeOf, shownBy};
 

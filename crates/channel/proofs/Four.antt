@@ -8,8 +8,8 @@ use borrow.Author.Tests.{eq-eqb, ne-eqb, eqb-true, eqb-false}
 use lib.Dec.{eqb, leb}
 use lib.Pow.{mod-pow-add}
 use Rattle.strings.specs.Pick.{pick}
-use Rattle.words.specs.declared.kinds.Kind.the-variants.{One, Two, Three, Four}
-use Rattle.words.specs.Records.{stringAt}
+use Rattle.records.specs.declared.kinds.Kind.the-variants.{One, Two, Three, Four}
+use Rattle.words.specs.Immediate.{stringAt}
 use Rattle.words.proofs.Ranges.{reading-fails}
 use Rattle.book.specs.Shows.{isGood}
 use Rattle.channel.specs.declared.Immediate.{Immediate}

@@ -23,7 +23,7 @@ use Rattle.words.proofs.WordBits.{word-lt}
 use Rattle.channel.specs.declared.Row.{Row}
 use Rattle.channel.specs.declared.News.{News}
 use Rattle.channel.specs.declared.News.the-variants.{AlreadyHeld, Kept, RecordBuilt, RecordOutOfRange}
-use Rattle.channel.specs.Tallies.{Outcome}
+use Rattle.tallies.specs.Tallies.{Outcome}
 use Rattle.channel.specs.Frame.{Frame, emptyFrame, noFrame, withString, isOfFrame, frameFor}
 use Rattle.channel.specs.Row.{isPresent, holdsFrame, stringIn, frameOf, emptyRow, newFrame, rowFor, stored, recorded, counted}
 

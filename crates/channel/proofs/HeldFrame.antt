@@ -19,7 +19,7 @@ use Rattle.strings.specs.Calls.{isIdle}
 use Rattle.strings.specs.declared.Verdict.{Verdict}
 use Rattle.strings.proofs.Answer.{refusal-known}
 use Rattle.strings.proofs.Judge.{mended-lt}
-use Rattle.strings.proofs.RelativeCode.{read-lt}
+use Rattle.relative.proofs.RelativeCode.{read-lt}
 use Rattle.words.specs.Calls.{numberIn}
 use Rattle.channel.specs.declared.News.{News}
 use Rattle.channel.specs.declared.News.the-variants.{AlreadyHeld, Kept, RecordBuilt, RecordOutOfRange}
@@ -27,7 +27,7 @@ use Rattle.channel.specs.declared.Row.{Row}
 use Rattle.channel.specs.declared.Offered.{Offered}
 use Rattle.channel.specs.declared.Answer.{Answer}
 use Rattle.channel.specs.declared.Answer.the-variants.{Taken as TAKEN, Refused as REFUSED}
-use Rattle.channel.specs.Tallies.Outcome.{Refused, Taken}
+use Rattle.tallies.specs.Tallies.Outcome.{Refused, Taken}
 use Rattle.channel.specs.Frame.{Frame, withString, startOf, isOfFrame, isHere, frameFor, afterString, newsOf}
 use Rattle.channel.specs.Row.{frameOf, emptyRow, newFrame, rowFor, stored, recorded, counted}
 use Rattle.channel.specs.Offers.{answerPaper, isTaken, OnlyCounted, takenRow, verdictOf, plainOf, wholeOf, offerTests, Offers, offeredRow}

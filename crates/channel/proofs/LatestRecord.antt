@@ -18,13 +18,13 @@ use Rattle.strings.specs.Numbers.{firstOf}
 use Rattle.words.specs.Calls.{numberIn}
 use Rattle.words.specs.Layout.{layout}
 use Rattle.words.specs.Values.{valuesOf, firstBad}
-use Rattle.words.specs.Records.{stringAt}
+use Rattle.words.specs.Immediate.{stringAt}
 use Rattle.book.specs.Shows.{isGood}
 use Rattle.book.proofs.Good.{both}
 use Rattle.channel.specs.declared.News.the-variants.{AlreadyHeld, Kept, RecordBuilt, RecordOutOfRange}
 use Rattle.channel.specs.declared.Row.{Row}
 use Rattle.channel.specs.declared.Immediate.{Immediate}
-use Rattle.channel.specs.Tallies.Outcome.{Refused}
+use Rattle.tallies.specs.Tallies.Outcome.{Refused}
 use Rattle.channel.specs.Frame.{Frame, emptyFrame, withString, startOf, isOfFrame, isHere, frameFor, fourGood, isComplete, isReadable, newsAt}
 use Rattle.channel.specs.Row.{isPresent, frameOf, keptFour, hasRecord, recordOf, emptyRow, newFrame, rowFor, stored, recorded, counted}
 use Rattle.channel.specs.Offers.{takenRow, verdictOf, plainOf, wholeOf, offerTests, offeredRow}

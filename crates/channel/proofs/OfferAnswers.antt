@@ -20,12 +20,13 @@ use Rattle.strings.specs.declared.hamming.Ruling.the-variants.{Sound, Damaged a
 use Rattle.strings.specs.Number.{numberOf, misshapen, stringBytes}
 use Rattle.strings.specs.Hamming.{ruling, isDamaged, mended}
 use Rattle.strings.specs.Numbers.{refusalPaper, verdictPaper, Test, test, firstOf, placeOf, saidBy, answerOf}
-use Rattle.strings.specs.Calls.{ReadsRelative, Checks, writtenPaper, checkedPaper, verdictTold, isIdle}
+use Rattle.strings.specs.Calls.{Checks, writtenPaper, checkedPaper, verdictTold, isIdle}
+use Rattle.relative.specs.Calls.{ReadsRelative}
 use Rattle.strings.proofs.Answer.{refusal-known, verdict-same, taken-made}
 use Rattle.strings.proofs.Below.{unfit}
 use Rattle.strings.proofs.CheckRule.{check-numbers}
 use Rattle.strings.proofs.Judge.{mended-lt}
-use Rattle.strings.proofs.RelativeCode.{read-lt, reads-exactly}
+use Rattle.relative.proofs.RelativeCode.{read-lt, reads-exactly}
 use Rattle.strings.proofs.Shape.{shaped, has-room, string-shaped}
 use Rattle.strings.proofs.Value.{Bytes, number-lt, string-number}
 use Rattle.channel.specs.declared.Row.{Row}

@@ -23,7 +23,7 @@ use Rattle.channel.specs.declared.Offered.{Offered}
 use Rattle.words.specs.Calls.{numberIn}
 use Rattle.strings.specs.Hamming.{ruling}
 use Rattle.channel.specs.Frame.{Frame, withString, startOf, isHere, frameFor, isComplete, isReadable, newsAt, newsOf}
-use Rattle.channel.specs.Tallies.Outcome.{Taken as TAKEN}
+use Rattle.tallies.specs.Tallies.Outcome.{Taken as TAKEN}
 use Rattle.channel.specs.Row.{frameOf, recorded, counted}
 use Rattle.channel.specs.Offers.{newsNumber, toldOf, answerPaper, verdictOf, plainOf, wholeOf, offerTests, Offers, takenRow, isTaken, isNew, isStored, storesIt}
 use Rattle.channel.proofs.OfferAnswers.{not-taken}

@@ -15,7 +15,7 @@ use Rattle.channel.specs.declared.News.the-variants.{AlreadyHeld}
 use Rattle.channel.specs.declared.Answer.the-variants.{Taken, Refused}
 use Rattle.channel.specs.declared.Row.{Row}
 use Rattle.channel.specs.declared.Offered.{Offered}
-use Rattle.channel.specs.Tallies.Outcome.{Refused as REFUSED, Taken as TAKEN}
+use Rattle.tallies.specs.Tallies.Outcome.{Refused as REFUSED, Taken as TAKEN}
 use Rattle.channel.specs.Frame.{startOf, dataIn, isOfFrame, conflictTests}
 use Rattle.channel.specs.Row.{isPresent, holdsFrame, stringIn, frameOf, newFrame, rowFor, recorded, counted}
 use Rattle.channel.specs.Offers.{answerPaper, Stores, PlacesBy, Places, takenRow}

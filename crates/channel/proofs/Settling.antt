@@ -16,7 +16,7 @@ use Rattle.channel.specs.declared.News.{News}
 use Rattle.channel.specs.declared.Answer.the-variants.{Taken, Refused}
 use Rattle.channel.specs.declared.Row.{Row}
 use Rattle.channel.specs.declared.Offered.{Offered}
-use Rattle.channel.specs.Tallies.Outcome.{Refused as REFUSED, Taken as TAKEN}
+use Rattle.tallies.specs.Tallies.Outcome.{Refused as REFUSED, Taken as TAKEN}
 use Rattle.channel.specs.Frame.{Frame, withString, startOf, isHere, newsAt}
 use Rattle.channel.specs.Row.{frameOf, rowFor, stored, recorded, counted}
 use Rattle.channel.specs.Offers.{answerPaper, toldAs, Settles, newNews, Stores, PlacesBy, takenRow}

@@ -17,14 +17,14 @@ use Rattle.words.specs.Calls.{numberIn}
 use Rattle.channel.specs.declared.News.{News}
 use Rattle.channel.specs.declared.News.the-variants.{AlreadyHeld, Kept, RecordBuilt, RecordOutOfRange}
 use Rattle.channel.specs.declared.Row.{Row}
-use Rattle.channel.specs.declared.Tallies.{Tallies}
-use Rattle.channel.specs.Tallies.{Outcome, afterOffer, afterOffers}
-use Rattle.channel.specs.Tallies.Outcome.{Refused, Taken}
+use Rattle.tallies.specs.declared.Tallies.{Tallies}
+use Rattle.tallies.specs.Tallies.{Outcome, afterOffer, afterOffers}
+use Rattle.tallies.specs.Tallies.Outcome.{Refused, Taken}
 use Rattle.channel.specs.Frame.{Frame, startOf, isOfFrame, isHere, newsOf}
 use Rattle.channel.specs.Row.{frameOf, emptyRow, newFrame, rowFor, stored, recorded, counted}
 use Rattle.channel.specs.Offers.{toldAs, takenRow, verdictOf, plainOf, wholeOf, offerTests, offeredRow}
 use Rattle.channel.specs.History.{Call, saidTo, saidSince, countsAs, outcomes, Runs, fresh, offering, resetting}
-use Rattle.channel.proofs.Counts.{counts, true-counts}
+use Rattle.tallies.proofs.Counts.{counts, true-counts}
 use Rattle.channel.proofs.HeldFrame.{offered-is, held-is}
 
 -- ---- what an answer counts as

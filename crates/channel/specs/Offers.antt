@@ -11,7 +11,7 @@ use Rattle.strings.specs.declared.Verdict.the-variants.{Clean}
 use Rattle.strings.specs.declared.hamming.Ruling.{Ruling}
 use Rattle.strings.specs.declared.hamming.Ruling.the-variants.{Sound, Damaged}
 use Rattle.strings.specs.Number.{numberOf, misshapen}
-use Rattle.strings.specs.Relative.{readRelative}
+use Rattle.relative.specs.Relative.{readRelative}
 use Rattle.strings.specs.Hamming.{ruling, isDamaged, mended}
 use Rattle.strings.specs.Numbers.{refusalPaper, verdictPaper, Test, test, firstOf, answerOf}
 use Rattle.strings.specs.Calls.{isIdle}
@@ -22,8 +22,8 @@ use Rattle.channel.specs.declared.Answer.{Answer}
 use Rattle.channel.specs.declared.Answer.the-variants.{Taken, Refused}
 use Rattle.channel.specs.declared.Row.{Row}
 use Rattle.channel.specs.declared.Offered.{Offered}
-use Rattle.channel.specs.Tallies.{oneMore}
-use Rattle.channel.specs.Tallies.Outcome.{Refused as REFUSED, Taken as TAKEN}
+use Rattle.tallies.specs.Tallies.{oneMore}
+use Rattle.tallies.specs.Tallies.Outcome.{Refused as REFUSED, Taken as TAKEN}
 use Rattle.channel.specs.Frame.{Frame, startOf, isHere, placeTests, withString, newsAt, newsOf}
 use Rattle.channel.specs.Row.{frameOf, rowFor, stored, recorded, counted}
 

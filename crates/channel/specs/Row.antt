@@ -2,7 +2,7 @@
 -- and four tallies"): the frame that it holds, and what becomes of its bytes. Every value has a meaning.
 -- Assumes nothing.
 use Prim.Native.Nat.{ℕ, _-_, _*_, _/_, _%_, _^_}
-use mathlib.Core.Bool.{Bool, not, _&&_}
+use mathlib.Core.Bool.{Bool, true, false, not, _&&_}
 use mathlib.Core.List.{List, [], _∷_}
 use lib.Bits.{bitOr}
 use lib.Dec.{eqb, leb}
@@ -11,12 +11,12 @@ use lib.Seq.{sets}
 use Rattle.strings.specs.Pick.{pick}
 use Rattle.strings.specs.Number.{stringBytes}
 use Rattle.words.specs.Calls.{numberIn}
-use Rattle.words.specs.Records.{stringAt}
+use Rattle.words.specs.Immediate.{stringAt}
 use Rattle.channel.specs.declared.Row.{Row}
 use Rattle.channel.specs.declared.Immediate.{Immediate}
 use Rattle.channel.specs.declared.News.{News}
 use Rattle.channel.specs.declared.News.the-variants.{AlreadyHeld, Kept, RecordBuilt, RecordOutOfRange}
-use Rattle.channel.specs.Tallies.{Outcome, afterOffer, noneCounted}
+use Rattle.tallies.specs.Tallies.{Outcome, afterOffer, noneCounted}
 use Rattle.channel.specs.Frame.{Frame, isOfFrame, fourGood}
 
 -- ---- what a row holds
@@ -32,14 +32,13 @@ holdsFrame mask = not (eqb (mask % 2 ^ 15) 0)
 abbrev pub stringIn : List ℕ → ℕ → ℕ
 stringIn strings m = stringAt strings (m - 1)
 
+-- the frame of a start, a mask and the bytes of fifteen strings
+abbrev pub framed : ℕ → ℕ → List ℕ → Frame
+framed start mask strings =
+    record { held = holdsFrame mask; start = start; has = λ m. isPresent mask m; text = λ m. pick (isPresent mask m) (stringIn strings m) 0 }
+
 abbrev pub frameOf : Row → Frame
-frameOf row =
-    record {
-      held = holdsFrame (row .present);
-      start = row .start;
-      has = λ m. isPresent (row .present) m;
-      text = λ m. pick (isPresent (row .present) m) (stringIn (row .strings) m) 0;
-    }
+frameOf row = framed (row .start) (row .present) (row .strings)
 
 -- the immediate record: the four strings that it was read from, and none where their words are not in range, as they are not in a reset row
 abbrev pub keptFour : Immediate → List ℕ
@@ -76,12 +75,17 @@ stored row n =
     }
 
 -- "they become the channel's immediate record": where the news is that one is built
+abbrev pub isBuilt : News → Bool
+isBuilt AlreadyHeld = false
+isBuilt Kept = false
+isBuilt RecordBuilt = true
+isBuilt RecordOutOfRange = false
+
 unfoldable pub recorded : News → Row → Row
-recorded AlreadyHeld row = row
-recorded Kept row = row
-recorded RecordBuilt row =
-    record { strings = row .strings; start = row .start; present = row .present; immediate = record { strings = take 44 (row .strings) }; tallies = row .tallies }
-recorded RecordOutOfRange row = row
+recorded w row =
+    pick (isBuilt w)
+    (record { strings = row .strings; start = row .start; present = row .present; immediate = record { strings = take 44 (row .strings) }; tallies = row .tallies })
+    row
 
 -- the tallies move by what became of the offer
 unfoldable pub counted : Outcome → Row → Row

@@ -4,12 +4,12 @@ use crate::News;
 use crate::Row;
 use words::word_in;
 ghost use mathlib.Core.Path.{_≡_};
-ghost use lib.ListN.{length};
+ghost use lib.ListN.{length, take};
 ghost use Rattle.strings.specs.Number.{numberOf};
-ghost use Rattle.words.specs.declared.kinds.Kind.the-variants.{One, Two};
+ghost use Rattle.records.specs.declared.kinds.Kind.the-variants.{One, Two};
 ghost use Rattle.book.specs.Shows.{isGood};
 ghost use Rattle.channel.specs.Frame.{newsAt};
-ghost use Rattle.channel.specs.Row.{frameOf, hasRecord, recorded};
+ghost use Rattle.channel.specs.Row.{frameOf, hasRecord, isBuilt};
 
 // The news of string m, newly in the row's frame.
 pub fn news_at(row: Row, m: u8) -> News
@@ -32,32 +32,26 @@ pub fn news_at(row: Row, m: u8) -> News
     }
 }
 
-// Where the news is that a record is built, the row's first four strings become it.
-pub fn record_if(news: News, row: Row) -> Row
-    ensures { λ r. ⌜ r ≡ recorded news row ⌝ }
+// Whether the news is that a record is built.
+pub fn is_built(news: News) -> bool
+    ensures { λ r. ⌜ r ≡ isBuilt news ⌝ }
 {
     match news {
-        News::AlreadyHeld => row,
-        News::Kept => row,
-        News::RecordBuilt => with_record(row),
-        News::RecordOutOfRange => row,
+        News::AlreadyHeld => false,
+        News::Kept => false,
+        News::RecordBuilt => true,
+        News::RecordOutOfRange => false,
     }
 }
 
-fn with_record(row: Row) -> Row
-    ensures { λ r. ⌜ r ≡ recorded News.RecordBuilt row ⌝ }
+// The record that the row's first four strings become.
+pub fn first_four(row: Row) -> Immediate
+    ensures { λ r. ⌜ r .strings ≡ take 44 (row .strings) ⌝ }
 {
     let all = row.strings;
     let mut four = [0u8; 44];
     bytes::copy(&all[0..44], &mut four);
-    let tallies = row.tallies;
-    Row {
-        strings: all,
-        start: row.start,
-        present: row.present,
-        immediate: Immediate { strings: four },
-        tallies,
-    }
+    Immediate { strings: four }
 }
 
 // Whether there is a record: its four strings are in range.

@@ -3,16 +3,16 @@ use crate::Answer;
 use crate::News;
 use crate::Offered;
 use crate::Row;
+use crate::completing::first_four;
+use crate::completing::is_built;
 use crate::completing::news_at;
-use crate::completing::record_if;
-use crate::counting::count_refused;
-use crate::counting::count_taken;
 use crate::rows::has_string;
 use crate::rows::holds_frame;
 use crate::rows::new_frame;
-use crate::rows::store;
 use strings::Refusal;
 use strings::Verdict;
+use tallies::count_refused;
+use tallies::count_taken;
 use words::number_in;
 use words::word_in;
 ghost use mathlib.Core.Path.{_≡_};
@@ -22,7 +22,7 @@ ghost use lib.Dec.{eqb};
 ghost use lib.ListN.{length};
 ghost use Rattle.strings.specs.Number.{numberOf, misshapen};
 ghost use Rattle.words.specs.Calls.{numberIn};
-ghost use Rattle.channel.specs.Tallies.Outcome.{Refused, Taken};
+ghost use Rattle.tallies.specs.Tallies.Outcome.{Refused, Taken};
 ghost use Rattle.channel.specs.Frame.{dataIn, startOf, isOfFrame, conflictTests};
 ghost use Rattle.channel.specs.Row.{frameOf, counted};
 ghost use Rattle.channel.specs.Offers.{Stores, PlacesBy, Places};
@@ -90,37 +90,43 @@ fn same_data(a: &[u8], b: &[u8]) -> bool
 }
 
 // Stores a string that the row's frame does not have, and tries the record.
-fn keep(row: Row, s: [u8; 11], v: Verdict) -> Offered
+fn keep(mut row: Row, s: [u8; 11], v: Verdict) -> Offered
     requires { ⌜ (misshapen s ≡ false) × (1 ≤ numberIn (numberOf s)) ⌝ }
     ensures { λ r. ⌜ Stores row (numberOf s) v r ⌝ }
 {
     let m = number_in(&s);
-    let next = store(row, m, s);
-    let news = news_at(next, m);
-    take(record_if(news, next), m, v, news)
+    let at = ((m - 1) as usize) * 11;
+    for i in 0..11 {
+        row.strings[at + i] = s[i];
+    }
+    row.present = row.present | (1u16 << (m - 1));
+    let news = news_at(row, m);
+    if is_built(news) {
+        let record = first_four(row);
+        row.immediate = record;
+    }
+    take(row, m, v, news)
 }
 
-fn take(row: Row, m: u8, v: Verdict, news: News) -> Offered
+fn take(mut row: Row, m: u8, v: Verdict, news: News) -> Offered
     ensures { λ r. ⌜ (r .answer ≡ Answer.Taken m v news) × (r .row ≡ counted (Taken v) row) ⌝ }
 {
     let t = row.tallies;
-    let mut next = row;
-    next.tallies = count_taken(t, v);
+    row.tallies = count_taken(t, v);
     Offered {
-        row: next,
+        row,
         answer: Answer::Taken(m, v, news),
     }
 }
 
 // A refusal moves two tallies and nothing else.
-pub fn refuse(row: Row, why: Refusal) -> Offered
+pub fn refuse(mut row: Row, why: Refusal) -> Offered
     ensures { λ r. ⌜ (r .answer ≡ Answer.Refused why) × (r .row ≡ counted Refused row) ⌝ }
 {
     let t = row.tallies;
-    let mut next = row;
-    next.tallies = count_refused(t);
+    row.tallies = count_refused(t);
     Offered {
-        row: next,
+        row,
         answer: Answer::Refused(why),
     }
 }

@@ -1,13 +1,10 @@
 // A row's mask and bytes.
 use crate::Immediate;
 use crate::Row;
-use crate::Tallies;
+use tallies::Tallies;
 ghost use mathlib.Core.Path.{_≡_};
-ghost use mathlib.Core.Bool.{false};
 ghost use Prim.Native.Nat.{_≤_};
-ghost use Rattle.strings.specs.Number.{numberOf, misshapen};
-ghost use Rattle.words.specs.Calls.{numberIn};
-ghost use Rattle.channel.specs.Row.{isPresent, holdsFrame, emptyRow, newFrame, stored};
+ghost use Rattle.channel.specs.Row.{isPresent, holdsFrame, emptyRow, newFrame};
 
 // A reset row.
 pub fn empty_row() -> Row
@@ -43,28 +40,11 @@ pub fn holds_frame(mask: u16) -> bool
 }
 
 // A frame with no string yet. The record and the tallies stay.
-pub fn new_frame(row: Row, start: u32) -> Row
+pub fn new_frame(mut row: Row, start: u32) -> Row
     ensures { λ r. ⌜ r ≡ newFrame row start ⌝ }
 {
-    let mut next = row;
-    next.strings = [0u8; 165];
-    next.start = start;
-    next.present = 0;
-    next
-}
-
-// Puts a string in its place, and marks it present.
-pub fn store(row: Row, m: u8, s: [u8; 11]) -> Row
-    requires { ⌜ (misshapen s ≡ false) × ((m ≡ numberIn (numberOf s)) × (1 ≤ m)) ⌝ }
-    ensures { λ r. ⌜ r ≡ stored row (numberOf s) ⌝ }
-{
-    let at = ((m - 1) as usize) * 11;
-    let mut all = row.strings;
-    for i in 0..11 {
-        all[at + i] = s[i];
-    }
-    let mut next = row;
-    next.strings = all;
-    next.present = row.present | (1u16 << (m - 1));
-    next
+    row.strings = [0u8; 165];
+    row.start = start;
+    row.present = 0;
+    row
 }

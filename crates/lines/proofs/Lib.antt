@@ -1,4 +1,3 @@
-pub mod Sees
 pub mod Tells
 pub mod Decimal
 pub mod Pieces

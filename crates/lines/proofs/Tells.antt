@@ -30,11 +30,12 @@ use Rattle.channel.proofs.HeldFrame.{first-said}
 use Rattle.station.specs.declared.Station.{Station}
 use Rattle.station.specs.declared.Stepped.{Stepped}
 use Rattle.station.specs.Station.{heldAt, isNoChannel, stationTests, toldIn, OffersTo}
+use Rattle.station.specs.History.{isOneOf}
 use Rattle.lines.specs.declared.Line.{Line}
 use Rattle.lines.specs.declared.Listed.{Listed}
-use Rattle.lines.specs.declared.seeing.Seen.{Seen}
-use Rattle.lines.specs.Line.{channelIn, epochIn, symbolsIn, isOneOf, beforeVerdict, beforeNumber, bitIn, bitOn, repairedFor, mFor, lineFor, Lists}
-use Rattle.lines.specs.Seen.{seen, seenPlain, seenIn, comesBeforeVerdict, seenBy}
+use Rattle.seen.specs.declared.seeing.Seen.{Seen}
+use Rattle.lines.specs.Line.{channelIn, epochIn, symbolsIn, beforeVerdict, beforeNumber, repairedFor, mFor, lineFor, Lists}
+use Rattle.seen.specs.Seen.{bitIn, bitOn, seen, seenPlain, seenIn, comesBeforeVerdict, seenBy}
 
 -- the refusals before the verdict are the paper's 1..4
 comes-before : (q : Refusal) → comesBeforeVerdict q ≡ isOneOf beforeVerdict (getD (refusalPaper q) 0 0)

@@ -4,9 +4,9 @@ use mathlib.Core.Path.{_≡_, refl}
 use mathlib.Core.List.{List, [], _∷_, _++_}
 use Prim.Native.Nat.{ℕ}
 use Rattle.strings.specs.Number.{numberOf, paddingOf, misshapen, wordOf, flip}
-use Rattle.strings.specs.Relative.{readRelative}
+use Rattle.relative.specs.Relative.{readRelative}
 use Rattle.strings.specs.Hamming.{position, sumC, sumAll, syndrome, howMany, highest, placed, judge, ruling, mended}
-use Rattle.strings.specs.Known.{B, inverseB}
+use Rattle.relative.specs.Known.{B, inverseB}
 use Rattle.channel.specs.Row.{emptyRow, holdsFrame}
 use Rattle.station.specs.Station.{freshStation}
 use Rattle.lines.specs.Line.{lineFor}

@@ -1,4 +1,3 @@
 pub mod Line
-pub mod Seen
 pub mod Text
 pub mod Known

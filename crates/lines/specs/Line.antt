@@ -1,23 +1,19 @@
 -- A record of the listing and its line (the paper, the end of "Known strings and edges"). For every station and any sixteen bytes.
 -- Assumes nothing.
 use Prim.Native.Nat.{ℕ}
-use mathlib.Core.Bool.{Bool, false, _||_}
 use mathlib.Core.List.{List, [], _∷_}
 use mathlib.Core.Path.{_≡_}
-use lib.Dec.{eqb}
 use lib.ListN.{getD, take, drop}
 use Rattle.strings.specs.Pick.{pick}
-use Rattle.strings.specs.declared.Verdict.{Verdict}
-use Rattle.strings.specs.declared.Verdict.the-variants.{Clean, Repaired}
-use Rattle.strings.specs.declared.hamming.Ruling.{Ruling}
-use Rattle.strings.specs.declared.hamming.Ruling.the-variants.{Sound, Damaged}
 use Rattle.strings.specs.Number.{valueOf}
 use Rattle.strings.specs.Hamming.{ruling}
 use Rattle.strings.specs.Numbers.{firstOf}
 use Rattle.words.specs.Calls.{numberIn}
 use Rattle.channel.specs.Offers.{plainOf, wholeOf}
+use Rattle.seen.specs.Seen.{bitOn}
 use Rattle.station.specs.declared.Station.{Station}
 use Rattle.station.specs.Station.{stationTests, stationAfter}
+use Rattle.station.specs.History.{isOneOf}
 use Rattle.lines.specs.declared.Line.{Line}
 use Rattle.lines.specs.declared.Listed.{Listed}
 
@@ -35,23 +31,9 @@ symbolsIn rec = take 11 (drop 5 rec)
 abbrev pub numberFor : Station → List ℕ → ℕ
 numberFor st rec = firstOf (stationTests st (channelIn rec) (epochIn rec) (symbolsIn rec))
 
--- a number is one of these
-abbrev pub isOneOf : List ℕ → ℕ → Bool
-isOneOf [] k = false
-isOneOf (n ∷ ns) k = eqb k n || isOneOf ns k
-
 -- ---- "repaired bit (0 if none or number 1..4)"
 abbrev pub beforeVerdict : List ℕ
 beforeVerdict = 1 ∷ 2 ∷ 3 ∷ 4 ∷ []
-
--- the bit of a verdict, and of the check's ruling: 0 if none
-abbrev pub bitIn : Verdict → ℕ
-bitIn Clean = 0
-bitIn (Repaired i) = i
-
-abbrev pub bitOn : Ruling → ℕ
-bitOn (Sound v) = bitIn v
-bitOn (Damaged d) = 0
 
 abbrev pub repairedFor : ℕ → List ℕ → ℕ
 repairedFor number s = pick (isOneOf beforeVerdict number) 0 (bitOn (ruling (plainOf s)))

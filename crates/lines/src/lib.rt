@@ -1,7 +1,6 @@
 // The listing: records of sixteen bytes offered to a station, and a line of five numbers for each.
 mod printing;
 mod records;
-mod seeing;
 mod stream;
 
 pub use printing::print_records;

@@ -1,8 +1,8 @@
 // A record: channel, epoch in four bytes, the highest first, and a string in relative form.
 use crate::Line;
 use crate::Listed;
-use crate::seeing::number_told;
-use crate::seeing::seen_by;
+use seen::number_told;
+use seen::seen_by;
 use station::Station;
 ghost use mathlib.Core.Path.{_≡_};
 ghost use mathlib.Core.List.{[], _∷_};

@@ -3,7 +3,7 @@ use crate::line::Text;
 use crate::line::put_hex;
 use crate::line::put_next;
 use crate::line::put_text;
-use crate::records::put_record;
+use crate::words_told::put_record;
 use strings::Checked;
 use strings::Refusal;
 use strings::Verdict;

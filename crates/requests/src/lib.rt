@@ -3,12 +3,12 @@
 mod answers;
 mod line;
 mod numbers;
-mod records;
 mod station_answers;
 mod station_calls;
 mod station_queries;
 mod string_calls;
 mod word_calls;
+mod words_told;
 
 use answers::say_bad;
 use answers::say_short;

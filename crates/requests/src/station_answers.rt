@@ -7,19 +7,19 @@ use crate::line::put_digits;
 use crate::line::put_next;
 use crate::line::put_pair;
 use crate::line::put_text;
-use crate::records::put_record;
+use crate::words_told::put_record;
 use book::Entry;
 use channel::Answer;
 use channel::News;
-use channel::Tallies;
+use records::ImmediateWords;
+use records::Record;
 use station::EntryFound;
 use station::Health;
 use station::HealthFound;
 use station::RecordFound;
 use station::TalliesFound;
 use strings::Written;
-use words::ImmediateWords;
-use words::Record;
+use tallies::Tallies;
 ghost use Prim.Native.Nat.{_≤_};
 
 // `taken M BIT NEWS`, BIT 0 where the string was clean.

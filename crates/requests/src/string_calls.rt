@@ -24,11 +24,11 @@ fn string_into(op: u8, s: &[u8], out: &mut [u8], text: &mut Text) -> usize
 {
     match op {
         1 => {
-            let w = strings::from_relative(s, out);
+            let w = relative::from_relative(s, out);
             say_written(text, w, out)
         }
         2 => {
-            let w = strings::to_relative(s, out);
+            let w = relative::to_relative(s, out);
             say_written(text, w, out)
         }
         3 => {

@@ -5,9 +5,9 @@ use crate::answers::say_written;
 use crate::line::Text;
 use crate::numbers::four;
 use crate::numbers::wide;
-use crate::records::count_of;
-use words::Kind;
-use words::Record;
+use crate::words_told::count_of;
+use records::Kind;
+use records::Record;
 ghost use Prim.Native.Nat.{_≤_, _<_};
 ghost use lib.ListN.{length};
 
@@ -67,7 +67,7 @@ fn write_kind(k: Kind, payload: &[u8], text: &mut Text) -> usize
     if payload.len() - 3 != count_of(k) * 4 {
         return say_bad(text, 5);
     }
-    let record = words::record_of(k, words_from(&payload[3..]));
+    let record = records::record_of(k, words_from(&payload[3..]));
     let mut space = [0u8; 255];
     let room = wide(payload[0]);
     write_into(payload[2], record, &mut space[0..room], text)

@@ -12,7 +12,7 @@ use lib.ListN.{length, getD, set, length-set, length-replicate, getD-replicate}
 use lib.Seq.{getD-set-same, getD-set-other}
 use Rattle.strings.specs.Pick.{pick}
 use Rattle.strings.specs.Number.{wordOf}
-use Rattle.words.specs.Records.{stringAt}
+use Rattle.words.specs.Immediate.{stringAt}
 use Rattle.book.specs.declared.Book.{Book}
 use Rattle.book.specs.Entry.{meaning}
 use Rattle.book.specs.Book.{inSlot}
@@ -20,11 +20,11 @@ use Rattle.book.proofs.Good.{both}
 use Rattle.book.proofs.Order.{below-same}
 use Rattle.book.proofs.Joins.{Full, empty-full}
 use Rattle.channel.specs.declared.Row.{Row}
-use Rattle.channel.specs.declared.Tallies.{Tallies}
+use Rattle.tallies.specs.declared.Tallies.{Tallies}
 use Rattle.channel.specs.Frame.{isHere}
 use Rattle.channel.specs.Row.{frameOf, hasRecord, recordOf, keptFour, emptyRow}
 use Rattle.channel.specs.Offers.{isTaken, OnlyCounted, wholeOf, offeredRow, storesIt}
-use Rattle.channel.specs.Shows.{showsOf, brought}
+use Rattle.shows.specs.Shows.{showsOf, brought}
 use Rattle.channel.specs.History.{recordAfter}
 use Rattle.channel.specs.Relock.{Heard, FirstOf15, NothingElse, Once, GoodTaken}
 use Rattle.channel.proofs.HeldFrame.{held-is, refused-only, taken-exactly, offered-long}

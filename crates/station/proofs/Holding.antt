@@ -17,7 +17,7 @@ use Rattle.book.specs.Entry.{Three, meaning, isBelow, entryOf, greater, blank}
 use Rattle.book.specs.Book.{inSlot, joinedShown}
 use Rattle.book.proofs.Order.{below-trans, below-irrefl, below-same, blank-below}
 use Rattle.book.proofs.Joins.{Full, shown-nothing, shown-slot, shown-other, shown-full}
-use Rattle.channel.specs.Shows.{brought}
+use Rattle.shows.specs.Shows.{brought}
 
 -- an entry has a day, and is what its three numbers say
 abbrev pub Dated : Entry → Type 0

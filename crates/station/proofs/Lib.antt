@@ -1,3 +1,5 @@
+mod Found
+pub mod AfterOffer
 pub mod Status
 pub mod QueriesOnce
 pub mod OnceOnly

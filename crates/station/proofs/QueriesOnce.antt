@@ -9,7 +9,7 @@ use lib.ListN.{getD}
 use Rattle.strings.specs.Pick.{pick}
 use Rattle.strings.specs.Numbers.{test, firstOf, leftBy, Exactly}
 use Rattle.strings.proofs.Answer.{refusal-same, exactly}
-use Rattle.channel.specs.declared.Tallies.{Tallies}
+use Rattle.tallies.specs.declared.Tallies.{Tallies}
 use Rattle.channel.proofs.OfferAnswers.{not-taken}
 use Rattle.station.specs.declared.Station.{Station}
 use Rattle.station.specs.declared.Health.{Health}

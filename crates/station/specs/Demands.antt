@@ -11,7 +11,7 @@ use Rattle.strings.specs.Number.{wordOf}
 use Rattle.strings.specs.Calls.{writtenPaper}
 use Rattle.book.specs.Entry.{Three, meaning}
 use Rattle.book.specs.Book.{inSlot}
-use Rattle.channel.specs.Tallies.{isOffer, isClean, isRepaired, isRefused, limit, howMany}
+use Rattle.tallies.specs.Tallies.{isOffer, isClean, isRepaired, isRefused, limit, howMany}
 use Rattle.channel.specs.Row.{recordOf}
 use Rattle.channel.specs.Offers.{answerPaper, isTaken, OnlyCounted}
 use Rattle.channel.specs.History.{heldAfter, outcomes, recordAfter}

@@ -10,7 +10,7 @@ use lib.Dec.{eqb}
 use Rattle.strings.specs.Pick.{pick}
 use Rattle.book.specs.declared.Shown.the-variants.{At}
 use Rattle.book.specs.Entry.{Three, isBelow, entryOf}
-use Rattle.channel.specs.Shows.{shownAt}
+use Rattle.shows.specs.Shows.{shownAt}
 use Rattle.channel.specs.History.{Call as OnChannel, Offer as OfferIt, Reset as ResetIt, heldAfter, saidTo}
 use Rattle.station.specs.declared.Station.{Station}
 use Rattle.station.specs.declared.Stepped.{Stepped}
@@ -53,6 +53,7 @@ pub data Part : List OnChannel → List OnChannel → Type 0 where
 abbrev pub pairs : List ℕ
 pairs = 6 ∷ 8 ∷ 10 ∷ 12 ∷ 14 ∷ []
 
+-- a number is one of these
 abbrev pub isOneOf : List ℕ → ℕ → Bool
 isOneOf [] p = false
 isOneOf (q ∷ qs) p = eqb p q || isOneOf qs p

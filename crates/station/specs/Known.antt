@@ -10,11 +10,12 @@ use Rattle.strings.specs.declared.Verdict.the-variants.{Clean, Repaired}
 use Rattle.strings.specs.declared.hamming.Damage.the-variants.{Unplaced, Even, Outside}
 use Rattle.strings.specs.declared.hamming.Ruling.the-variants.{Sound, Damaged}
 use Rattle.strings.specs.Number.{numberOf, paddingOf, misshapen, wordOf, flip, stringBytes}
-use Rattle.strings.specs.Relative.{readRelative, writeRelative, inverse}
+use Rattle.relative.specs.Relative.{readRelative, writeRelative, inverse}
 use Rattle.strings.specs.Hamming.{position, sumC, sumAll, syndrome, howMany, highest, placed, judge, ruling, mended, encode}
 use Rattle.strings.specs.Numbers.{firstOf, answerOf}
-use Rattle.strings.specs.Known.{A, B, inverseB, zeros, a, known as strings-known}
-use Rattle.words.specs.declared.kinds.Kind.{Kind}
+use Rattle.strings.specs.Known.{A, zeros, a, known as strings-known}
+use Rattle.relative.specs.Known.{B, inverseB, known as relative-known}
+use Rattle.records.specs.declared.kinds.Kind.{Kind}
 use Rattle.words.specs.Layout.{word}
 use Rattle.words.specs.Calls.{readTests}
 use Rattle.words.specs.Values.{valueIn, inRange}
@@ -82,10 +83,10 @@ known-strings =
       A-bits = strings-known .A-bits;
       A-encoded = strings-known .A-encoded;
       A-clean = strings-known .A-clean;
-      B-sent = strings-known .B-sent;
+      B-sent = relative-known .B-sent;
       B-inverted = B-inverted-so;
-      B-read = strings-known .B-read;
-      B-inverse-read = strings-known .B-inverse-read;
+      B-read = relative-known .B-read;
+      B-inverse-read = relative-known .B-inverse-read;
       flip-9-S = strings-known .flip-9-S;
       flip-9 = strings-known .flip-9;
       flip-85-S = strings-known .flip-85-S;

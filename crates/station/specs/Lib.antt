@@ -2,5 +2,4 @@ pub mod Station
 pub mod Queries
 pub mod History
 pub mod Demands
-pub mod Witness
 pub mod Known

@@ -8,14 +8,14 @@ use lib.Dec.{eqb, leb}
 use Rattle.strings.specs.Pick.{pick}
 use Rattle.strings.specs.Number.{wordOf}
 use Rattle.strings.specs.Numbers.{refusalPaper, Test, test, answerOf}
-use Rattle.words.specs.declared.records.ImmediateWords.{ImmediateWords}
-use Rattle.words.specs.Records.{stringAt, immediateOf}
+use Rattle.records.specs.declared.named.ImmediateWords.{ImmediateWords}
+use Rattle.words.specs.Immediate.{stringAt, immediateOf}
 use Rattle.book.specs.declared.Entry.{Entry}
 use Rattle.book.specs.declared.Book.{Book}
 use Rattle.book.specs.Entry.{Three, meaning}
 use Rattle.book.specs.Book.{inSlot}
 use Rattle.channel.specs.declared.Immediate.{Immediate}
-use Rattle.channel.specs.declared.Tallies.{Tallies}
+use Rattle.tallies.specs.declared.Tallies.{Tallies}
 use Rattle.channel.specs.Row.{hasRecord}
 use Rattle.station.specs.declared.Station.{Station}
 use Rattle.station.specs.declared.Health.{Health}

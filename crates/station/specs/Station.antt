@@ -14,11 +14,11 @@ use Rattle.strings.specs.Calls.{writtenPaper}
 use Rattle.book.specs.declared.Book.{Book}
 use Rattle.book.specs.Book.{emptyBook}
 use Rattle.channel.specs.declared.Row.{Row}
-use Rattle.channel.specs.Tallies.{noneCounted}
+use Rattle.tallies.specs.Tallies.{noneCounted}
 use Rattle.channel.specs.Frame.{Frame}
 use Rattle.channel.specs.Row.{frameOf, emptyRow}
 use Rattle.channel.specs.Offers.{answerPaper, toldOf, verdictOf, plainOf, wholeOf, offerTests, offeredRow, storesIt}
-use Rattle.channel.specs.Shows.{showsOf, brought}
+use Rattle.shows.specs.Shows.{showsOf, brought}
 use Rattle.station.specs.declared.Station.{Station}
 use Rattle.station.specs.declared.Stepped.{Stepped}
 use Rattle.station.specs.declared.Emptied.{Emptied}

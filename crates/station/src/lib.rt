@@ -7,7 +7,7 @@ use book::Book;
 use book::Entry;
 use channel::Answer;
 use channel::Row;
-use channel::Tallies;
+pub use offering::bring_if;
 pub use offering::fresh;
 pub use offering::offer;
 pub use offering::reset;
@@ -15,14 +15,16 @@ pub use queries::entry_of;
 pub use queries::health_of;
 pub use queries::immediate_of;
 pub use queries::tallies_of;
+use records::ImmediateWords;
 use strings::Refusal;
 use strings::Written;
-use words::ImmediateWords;
+use tallies::Tallies;
 
 // How many channels a station has.
 pub const CHANNELS: usize = 24;
 
 // All that the card knows: a row for each channel, and the almanac book that they share.
+#[repr(C)]
 pub struct Station {
     pub rows: [Row; CHANNELS],
     pub book: Book,

@@ -7,14 +7,14 @@ use book::Book;
 use book::empty_book;
 use channel::Answer;
 use channel::Row;
-use channel::bring;
 use channel::empty_row;
 use channel::is_stored;
+use shows::bring;
 use strings::Refusal;
 use strings::Written;
 ghost use mathlib.Core.Path.{_≡_};
 ghost use Rattle.channel.specs.Row.{frameOf};
-ghost use Rattle.channel.specs.Shows.{showsOf, brought};
+ghost use Rattle.shows.specs.Shows.{showsOf, brought};
 ghost use Rattle.channel.specs.Offers.{isStored};
 ghost use Rattle.strings.specs.Pick.{pick};
 ghost use Rattle.station.specs.Station.{freshStation, OffersTo, Resets};
@@ -57,7 +57,7 @@ pub fn offer(mut st: Station, channel: u8, epoch: u32, s: &[u8]) -> Stepped
 }
 
 // A string newly stored brings all that its frame then shows to the book.
-fn bring_if(answer: Answer, row: Row, b: Book) -> Book
+pub fn bring_if(answer: Answer, row: Row, b: Book) -> Book
     ensures { λ r. ⌜ r ≡ pick (isStored answer) (brought b (showsOf (frameOf row))) b ⌝ }
 {
     if is_stored(answer) { bring(row, b) } else { b }

@@ -1,30 +1,60 @@
 -- For every choice of bits 85..9 there is exactly one encoded string, and it is the one that `encode` makes.
 -- Assumes nothing.
-use mathlib.Core.Path.{_≡_, refl, _∙_, sym, ap, ap₂}
-use mathlib.Core.Bool.{Bool}
+use mathlib.Core.Path.{_≡_, refl, _∙_, subst, sym, ap, ap₂}
 use Prim.Native.Nat.{ℕ, zero, suc, _+_, _-_, _*_, _/_, _%_, _^_, _≤_, _<_}
-use native.Mathlib.Nat.{mod-eq-of-lt, mod-lt, one-mul, lt-trans}
+use native.Mathlib.Nat.{mod-eq-of-lt, mod-lt, div-add-mod', mul-zero, zero-mul, one-mul, lt-trans, zero-lt-suc}
 use native.Mathlib.Omega.{arith}
-use lib.Bits.{bitXor, xor-self, xor-shr, xor-lt, xor-zero-r, xor-shifted, xor-comm}
-use lib.Dec.{T, eqb, eqb→eq}
-use lib.Pow.{mod-pow-add, pow-pos, pow-lt}
+use lib.Bits.{bitXor, xor-self, xor-shr, xor-lt, xor-zero-l, xor-zero-r, xor-shifted, xor-comm}
+use lib.Dec.{lit<, lit≤}
+use lib.Pow.{mod-pow-add, pow-pos, pow-lt, shr-lt}
+use borrow.Author.Tests.{le-leb}
 use Rattle.strings.specs.Number.{bitOf, flip}
-use Rattle.strings.specs.Hamming.{position, syndrome, sumC, sumAll, Encoded, sumsMade, encode}
-use Rattle.strings.proofs.Below.{below, below-at}
+use Rattle.strings.specs.Hamming.{position, syndrome, sumAll, Encoded, sumsMade, encode}
 use Rattle.strings.proofs.Digits.{xor-assoc, xor-same}
-use Rattle.strings.proofs.Sums.{syndrome-linear, sumAll-linear, syndrome-lt, sumAll-lt}
+use Rattle.strings.proofs.Sums.{syndrome-linear, sumAll-linear, syndrome-lt, sumAll-lt, one-syndrome}
 
 -- ---- check bits alone: C_k is check bit k, and bit 8 is in no sum but C
-lowTest : ℕ → Bool
-lowTest k = eqb (syndrome k) (k % 128)
+none : syndrome 0 ≡ 0
+none = syndrome-linear 0 0 ∙ xor-self (syndrome 0)
 
-lows : T (below 256 lowTest)
-unfolding lowTest syndrome sumC position
-lows = tt
+-- bit m+1, set or not
+bit-syndrome : (d m : ℕ) → d < 2 → m < 85 → syndrome (d * 2 ^ m) ≡ d * position (suc m)
+bit-syndrome zero m h u = ap syndrome (zero-mul (2 ^ m)) ∙ none ∙ sym (zero-mul (position (suc m)))
+bit-syndrome (suc zero) m h u =
+    let e : m ≡ suc m - 1 = omega arith in
+    ap syndrome (one-mul (2 ^ m) ∙ ap (λ (j : ℕ). 2 ^ j) e) ∙ one-syndrome (suc m) (omega arith) u ∙ sym (one-mul (position (suc m)))
+bit-syndrome (suc (suc d)) m h u = absurd (omega arith)
+
+-- S of the highest bit and of those below it, combined
+split : (m k : ℕ) → m < 85 → k < 2 ^ (1 + m) → syndrome k ≡ bitXor (k / 2 ^ m * position (suc m)) (syndrome (k % 2 ^ m))
+split m k u h =
+    let d = k / 2 ^ m in
+    let r = k % 2 ^ m in
+    ap syndrome (sym (xor-shifted d m r (mod-lt k (pow-pos m)) ∙ div-add-mod' k (2 ^ m)))
+    ∙ syndrome-linear (d * 2 ^ m) r ∙ ap (λ (x : ℕ). bitXor x (syndrome r)) (bit-syndrome d m (shr-lt 1 m h) u)
+
+check-position : (m : ℕ) → m < 7 → position (suc m) ≡ 2 ^ m
+unfolding position
+check-position m h = let e : 2 ^ (suc m - 1) ≡ 2 ^ m = ap (λ (j : ℕ). 2 ^ j) (omega arith) in rw (le-leb (suc m) 7 h, e)
+
+sums-alone : (m k : ℕ) → m ≤ 7 → k < 2 ^ m → syndrome k ≡ k
+sums-alone zero k u h = let z : k ≡ 0 = omega arith in ap syndrome z ∙ none ∙ sym z
+sums-alone (suc m) k u h =
+    let d = k / 2 ^ m in
+    let r = k % 2 ^ m in
+    let l = mod-lt k (pow-pos m) in
+    split m k (omega arith) (subst (λ (j : ℕ). k < 2 ^ j) (omega arith) h)
+    ∙ ap₂ bitXor (ap (λ (x : ℕ). d * x) (check-position m u)) (sums-alone m r (omega arith) l) ∙ xor-shifted d m r l ∙ div-add-mod' k (2 ^ m)
+
+position-8 : position 8 ≡ 0
+unfolding position
+position-8 = refl
 
 low-syndrome : (k : ℕ) → k < 256 → syndrome k ≡ k % 128
-unfolding lowTest
-low-syndrome k h = eqb→eq _ _ (below-at 256 lowTest lows k h)
+low-syndrome k h =
+    split 7 k (lit< tt) h
+    ∙ ap₂ bitXor (ap (λ (x : ℕ). k / 128 * x) position-8 ∙ mul-zero (k / 128)) (sums-alone 7 (k % 128) (lit≤ tt) (mod-lt k (zero-lt-suc 127)))
+    ∙ xor-zero-l (k % 128)
 
 -- bit 8 alone
 eighth : (b : ℕ) → b < 2 → sumAll (b * 2 ^ 7) ≡ b

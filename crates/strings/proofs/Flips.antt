@@ -14,9 +14,10 @@ use Rattle.strings.specs.declared.hamming.Ruling.{Ruling}
 use Rattle.strings.specs.declared.hamming.Ruling.the-variants.{Sound, Damaged}
 use Rattle.strings.specs.Pick.{pick}
 use Rattle.strings.specs.Number.{flip}
-use Rattle.strings.specs.Hamming.{position, syndrome, sumC, sumAll, howMany, highest, placed, judge, ruling, isDamaged, mended, Encoded}
+use Rattle.strings.specs.Hamming.{position, syndrome, sumAll, howMany, highest, placed, judge, ruling, isDamaged, mended, Encoded}
 use Rattle.strings.proofs.Below.{and-left, and-right, below, below-at}
-use Rattle.strings.proofs.Sums.{syndrome-linear, syndrome-lt, sumAll-lt, flip-all}
+use Rattle.strings.proofs.Digits.{xor-same}
+use Rattle.strings.proofs.Sums.{syndrome-linear, syndrome-lt, sumAll-lt, position-lt, one-syndrome, flip-all}
 use Rattle.strings.proofs.Judge.{names-bit, mended-by}
 
 -- ---- rulings compared by a test
@@ -44,34 +45,26 @@ T-true : (b : Bool) → T b → b ≡ true
 T-true true t = refl
 T-true false t = absurd t
 
--- ---- one bit: S of a string with bit i alone is the bit's position, and that position with C at 1 names the bit, but for bit 8
+-- ---- one bit: its position with C at 1 names the bit, but for bit 8
 abbrev named : ℕ → Ruling → Bool
 named i r = pick (eqb i 8) (isDamaged r) (repairs i r)
 
 oneTest : ℕ → Bool
-oneTest j = eqb (syndrome (2 ^ (suc j - 1))) (position (suc j)) && named (suc j) (judge (position (suc j)) 1)
+oneTest j = named (suc j) (judge (position (suc j)) 1)
 
 ones : T (below 85 oneTest)
-unfolding oneTest syndrome sumC position judge placed highest howMany
+unfolding oneTest position judge placed highest howMany
 ones = tt
 
-record OneBit (i : ℕ) : Type 0 where
-  sums : syndrome (2 ^ (i - 1)) ≡ position i
-  names : T (named i (judge (position i) 1))
-
-one-bit : (i : ℕ) → 1 ≤ i → i ≤ 85 → OneBit i
+one-bit : (i : ℕ) → 1 ≤ i → i ≤ 85 → T (named i (judge (position i) 1))
 unfolding oneTest
 one-bit zero l u = absurd (not-suc-le-zero l)
-one-bit (suc j) l u =
-    let a = eqb (syndrome (2 ^ (suc j - 1))) (position (suc j)) in
-    let b = named (suc j) (judge (position (suc j)) 1) in
-    let t = below-at 85 oneTest ones j u in
-    record { sums = eqb→eq _ _ (and-left a b t); names = and-right a b t }
+one-bit (suc j) l u = below-at 85 oneTest ones j u
 
 -- a flip combines the bit's position into S
 flip-syndrome : (n i : ℕ) → 1 ≤ i → i ≤ 85 → syndrome (flip n i) ≡ bitXor (syndrome n) (position i)
 unfolding flip
-flip-syndrome n i l u = syndrome-linear n (2 ^ (i - 1)) ∙ ap (bitXor (syndrome n)) (one-bit i l u .sums)
+flip-syndrome n i l u = syndrome-linear n (2 ^ (i - 1)) ∙ ap (bitXor (syndrome n)) (one-syndrome i l u)
 
 -- ---- an encoded string
 pub encoded-ruling : (n : ℕ) → Encoded n → ruling n ≡ Sound Clean
@@ -89,30 +82,44 @@ pub one-flip-ruling : (n i : ℕ) → Encoded n → 1 ≤ i → i ≤ 85 → (i 
 one-flip-ruling n i v l u ne =
     flip-ruling n i v l u
     ∙ repairs-is i (judge (position i) 1)
-    (subst (λ (b : Bool). T (pick b (isDamaged (judge (position i) 1)) (repairs i (judge (position i) 1)))) (ne-eqb i 8 ne) (one-bit i l u .names))
+    (subst (λ (b : Bool). T (pick b (isDamaged (judge (position i) 1)) (repairs i (judge (position i) 1)))) (ne-eqb i 8 ne) (one-bit i l u))
 
 pub bit-8-ruling : (n : ℕ) → Encoded n → isDamaged (ruling (flip n 8)) ≡ true
 bit-8-ruling n v =
     let l : 1 ≤ 8 = omega arith in
     let u : 8 ≤ 85 = omega arith in
-    ap isDamaged (flip-ruling n 8 v l u) ∙ T-true _ (one-bit 8 l u .names)
+    ap isDamaged (flip-ruling n 8 v l u) ∙ T-true _ (one-bit 8 l u)
 
--- ---- with two bits flipped: two positions combined name no bit while C is 0
-twoTest : ℕ → ℕ → Bool
-twoTest j k = pick (eqb (suc j) (suc k)) true (isDamaged (judge (bitXor (position (suc j)) (position (suc k))) 0))
+-- ---- with two bits flipped: two positions combined are not 0, and name no bit while C is 0
+-- the bit that a ruling on one bit names
+abbrev bitNamed : Ruling → ℕ
+bitNamed (Sound Clean) = 0
+bitNamed (Sound (Repaired i)) = i
+bitNamed (Damaged d) = 8
 
-twos : T (below 85 (λ j. below 85 (twoTest j)))
-unfolding twoTest position judge
-twos = tt
+named-is : (i : ℕ) (r : Ruling) (b : Bool) → eqb i 8 ≡ b → T (pick b (isDamaged r) (repairs i r)) → i ≡ bitNamed r
+named-is i (Sound Clean) true e t = absurd t
+named-is i (Sound Clean) false e t = absurd t
+named-is i (Sound (Repaired j)) true e t = absurd t
+named-is i (Sound (Repaired j)) false e t = sym (eqb→eq j i t)
+named-is i (Damaged d) true e t = eqb→eq i 8 (subst T (sym e) tt)
+named-is i (Damaged d) false e t = absurd t
+
+-- so no two bits have one position
+bit-of-position : (i : ℕ) → 1 ≤ i → i ≤ 85 → i ≡ bitNamed (judge (position i) 1)
+bit-of-position i l u = named-is i (judge (position i) 1) (eqb i 8) refl (one-bit i l u)
+
+position-once : (i j : ℕ) → 1 ≤ i → i ≤ 85 → 1 ≤ j → j ≤ 85 → position i ≡ position j → i ≡ j
+position-once i j l u l′ u′ e = bit-of-position i l u ∙ ap (λ (p : ℕ). bitNamed (judge p 1)) e ∙ sym (bit-of-position j l′ u′)
+
+even-damaged : (s : ℕ) → (s ≡ 0 → ⊥) → isDamaged (judge s 0) ≡ true
+unfolding judge
+even-damaged s h = rw (ne-eqb s 0 h)
 
 two-positions : (i j : ℕ) → 1 ≤ i → i ≤ 85 → 1 ≤ j → j ≤ 85 → (i ≡ j → ⊥) → isDamaged (judge (bitXor (position i) (position j)) 0) ≡ true
-unfolding twoTest
-two-positions zero j l u l′ u′ ne = absurd (not-suc-le-zero l)
-two-positions (suc i) zero l u l′ u′ ne = absurd (not-suc-le-zero l′)
-two-positions (suc i) (suc j) l u l′ u′ ne =
-    let r = judge (bitXor (position (suc i)) (position (suc j))) 0 in
-    T-true (isDamaged r) (subst (λ (b : Bool). T (pick b true (isDamaged r))) (ne-eqb (suc i) (suc j) ne)
-    (below-at 85 (twoTest i) (below-at 85 (λ i. below 85 (twoTest i)) twos i u) j u′))
+two-positions i j l u l′ u′ ne =
+    even-damaged (bitXor (position i) (position j))
+    (λ z. ne (position-once i j l u l′ u′ (xor-same 7 (position i) (position j) (position-lt i l u) (position-lt j l′ u′) z)))
 
 pub two-flips-ruling : (n i j : ℕ) → Encoded n → 1 ≤ i → i ≤ 85 → 1 ≤ j → j ≤ 85 → (i ≡ j → ⊥) → isDamaged (ruling (flip (flip n i) j)) ≡ true
 unfolding ruling

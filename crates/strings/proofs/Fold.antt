@@ -6,12 +6,12 @@ use Prim.Native.Nat.{ℕ, zero, suc, _+_, _-_, _*_, _%_, _≤_, _<_}
 use native.Mathlib.Nat.{mod-lt, le-of-suc-le-suc, not-suc-le-zero, zero-lt-suc, mul-zero, mul-one}
 use native.Mathlib.Omega.{arith}
 use lib.Bits.{bitXor, xor-lt, xor-zero-r}
-use lib.Dec.{T, lit<, ltb, ltb→lt, leb, le→leb, eqb, eqb→eq}
+use lib.Dec.{T, lit<, leb, le→leb, eqb, eqb→eq}
 use Rattle.strings.specs.Number.{bitOf}
 use Rattle.strings.specs.Hamming.{position, addUp, syndrome, sumC, sumAll}
 use Rattle.strings.proofs.Below.{below, below-at}
 use Rattle.strings.proofs.Digits.{bit-lt, bit-zero, bit-xor}
-use Rattle.strings.proofs.Sums.{syndrome-is}
+use Rattle.strings.proofs.Sums.{syndrome-is, position-lt}
 
 -- the positions of the set bits among 1..m, combined
 unfoldable pub someTo : ℕ → ℕ → ℕ
@@ -32,19 +32,6 @@ unfolding someTo
 some-digit k n zero = bit-zero k
 some-digit k n (suc m) =
     omega (arith, bit-xor (someTo n m) (position (suc m) * bitOf n (suc m)) k, some-digit k n m, bit-times (position (suc m)) (bitOf n (suc m)) k (bit-lt n (suc m)))
-
--- ---- every position is below 128
-smallTest : ℕ → Bool
-smallTest j = ltb (position (suc j)) 128
-
-smalls : T (below 85 smallTest)
-unfolding smallTest position
-smalls = tt
-
-pub position-lt : (i : ℕ) → 1 ≤ i → i ≤ 85 → position i < 128
-unfolding smallTest
-position-lt zero l h = absurd (not-suc-le-zero l)
-position-lt (suc j) l h = ltb→lt _ _ (below-at 85 smallTest smalls j h)
 
 -- ---- a run of the position rule: d less than the bit number
 abbrev runTest : ℕ → ℕ → ℕ → ℕ → Bool

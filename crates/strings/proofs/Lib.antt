@@ -3,8 +3,6 @@ pub mod Digits
 pub mod Value
 pub mod Shape
 pub mod Answer
-pub mod RelativeCode
-pub mod Symbols
 pub mod Sums
 pub mod Fold
 pub mod Judge

@@ -1,4 +1,5 @@
--- The three public calls on strings, each with one relation between what it was handed, its answer and what it left in the output.
+-- The public check, with one relation between what it was handed, its answer and what it left in the output; and what other calls on strings
+-- share with it.
 -- Assumes nothing.
 use Prim.Native.Nat.{ℕ}
 use mathlib.Core.Bool.{Bool, not}
@@ -12,7 +13,6 @@ use Rattle.strings.specs.declared.Written.the-variants.{Done, Refused as
 use Rattle.strings.specs.declared.hamming.Ruling.{Ruling}
 use Rattle.strings.specs.declared.hamming.Ruling.the-variants.{Sound, Damaged}
 use Rattle.strings.specs.Number.{numberOf, misshapen, bitOf, stringBytes}
-use Rattle.strings.specs.Relative.{readRelative, writeRelative}
 use Rattle.strings.specs.Hamming.{ruling, isDamaged, mended}
 use Rattle.strings.specs.Numbers.{refusalPaper, verdictPaper, Test, test, Answers}
 
@@ -32,20 +32,6 @@ writtenPaper (Refused′ r) = refusalPaper r
 abbrev pub checkedPaper : Checked → List ℕ
 checkedPaper (Taken v) = 0 ∷ verdictPaper v
 checkedPaper (Refused r) = refusalPaper r
-
--- ---- "Relative code, reading: 12, 2"
-abbrev pub readingTests : List ℕ → List ℕ → List Test
-readingTests s out = test 12 (noRoom out) ∷ test 2 (misshapen s) ∷ []
-
-unfoldable pub ReadsRelative : List ℕ → List ℕ → Written → List ℕ → Type 0
-ReadsRelative s out r out′ = Answers (readingTests s out) [] (stringBytes (readRelative (numberOf s))) out (writtenPaper r) out′
-
--- ---- "writing: 12, 2, 4"
-abbrev pub writingTests : List ℕ → List ℕ → List Test
-writingTests s out = test 12 (noRoom out) ∷ test 2 (misshapen s) ∷ test 4 (isIdle (numberOf s)) ∷ []
-
-unfoldable pub WritesRelative : List ℕ → List ℕ → Written → List ℕ → Type 0
-WritesRelative s out r out′ = Answers (writingTests s out) [] (stringBytes (writeRelative (numberOf s))) out (writtenPaper r) out′
 
 -- ---- 2, 3, 4 of a plain string: "After a repair bit 85 must be 0, else IDLE"
 abbrev pub stringTests : List ℕ → List Test

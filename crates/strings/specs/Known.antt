@@ -7,17 +7,10 @@ use Rattle.strings.specs.declared.Verdict.the-variants.{Clean, Repaired}
 use Rattle.strings.specs.declared.hamming.Damage.the-variants.{Unplaced, Even, Outside}
 use Rattle.strings.specs.declared.hamming.Ruling.the-variants.{Sound, Damaged}
 use Rattle.strings.specs.Number.{numberOf, flip, stringBytes}
-use Rattle.strings.specs.Relative.{readRelative, writeRelative}
 use Rattle.strings.specs.Hamming.{position, sumC, sumAll, syndrome, howMany, highest, placed, judge, ruling, sumsMade, encode}
 
 abbrev pub A : List ℕ
 A = 0x08 ∷ 0 ∷ 0 ∷ 0 ∷ 0 ∷ 0 ∷ 0 ∷ 0 ∷ 0 ∷ 0x06 ∷ 0x80 ∷ []
-
-abbrev pub B : List ℕ
-B = 0x0F ∷ 0xFF ∷ 0xFF ∷ 0xFF ∷ 0xFF ∷ 0xFF ∷ 0xFF ∷ 0xFF ∷ 0xFF ∷ 0xFB ∷ 0x00 ∷ []
-
-abbrev pub inverseB : List ℕ
-inverseB = 0xF0 ∷ 0 ∷ 0 ∷ 0 ∷ 0 ∷ 0 ∷ 0 ∷ 0 ∷ 0 ∷ 0x04 ∷ 0xF8 ∷ []
 
 abbrev pub zeros : List ℕ
 zeros = 0 ∷ 0 ∷ 0 ∷ 0 ∷ 0 ∷ 0 ∷ 0 ∷ 0 ∷ 0 ∷ 0 ∷ 0 ∷ []
@@ -30,10 +23,6 @@ pub record Known : Type 0 where
   pub A-bits : a ≡ 2 ^ 80 + 2 ^ 7 + 2 ^ 6 + 2 ^ 4
   pub A-encoded : stringBytes (encode (2 ^ 80)) ≡ A
   pub A-clean : ruling a ≡ Sound Clean
-  -- B: A in relative form; both it and its inverse read as A
-  pub B-sent : stringBytes (writeRelative a) ≡ B
-  pub B-read : stringBytes (readRelative (numberOf B)) ≡ A
-  pub B-inverse-read : stringBytes (readRelative (numberOf inverseB)) ≡ A
   -- A with bit 9 flipped: S = 3, repaired 9
   pub flip-9-S : syndrome (flip a 9) ≡ 3
   pub flip-9 : ruling (flip a 9) ≡ Sound (Repaired 9)
@@ -53,15 +42,12 @@ pub record Known : Type 0 where
   pub zeros-clean : ruling (numberOf zeros) ≡ Sound Clean
 
 pub known : Known
-unfolding a numberOf flip stringBytes readRelative writeRelative position sumC sumAll syndrome howMany highest placed judge ruling sumsMade encode
+unfolding a numberOf flip stringBytes position sumC sumAll syndrome howMany highest placed judge ruling sumsMade encode
 known =
     record {
       A-bits = refl;
       A-encoded = refl;
       A-clean = refl;
-      B-sent = refl;
-      B-read = refl;
-      B-inverse-read = refl;
       flip-9-S = refl;
       flip-9 = refl;
       flip-85-S = refl;

@@ -1,6 +1,5 @@
 pub mod Pick
 pub mod Number
-pub mod Relative
 pub mod Hamming
 pub mod Table413
 pub mod Numbers

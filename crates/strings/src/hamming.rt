@@ -28,27 +28,28 @@ struct Sums {
     c: u8,
 }
 
-// The position of a bit, by the rule that makes Table 4.13.
+// The position of a bit, by the rule that makes Table 4.13. The long runs come first: most bits are
+// in them.
 fn position_of(i: u8) -> u8
     requires { ⌜ (1 ≤ i) × (i ≤ 85) ⌝ }
     ensures { λ r. ⌜ r ≡ position i ⌝ }
 {
-    if i <= 7 {
-        1 << (i - 1)
-    } else if i == 8 {
-        0
+    if 66 <= i {
+        i - 1
+    } else if 35 <= i {
+        i - 2
+    } else if 20 <= i {
+        i - 3
+    } else if 13 <= i {
+        i - 4
+    } else if 10 <= i {
+        i - 5
     } else if i == 9 {
         3
-    } else if i <= 12 {
-        i - 5
-    } else if i <= 19 {
-        i - 4
-    } else if i <= 34 {
-        i - 3
-    } else if i <= 65 {
-        i - 2
+    } else if i == 8 {
+        0
     } else {
-        i - 1
+        1 << (i - 1)
     }
 }
 

@@ -1,11 +1,10 @@
-// The 85-bit navigation string of GLONASS: relative code, check and repair, and the numbers that
-// say no. A string is eleven bytes: bit 85 is the top bit of the first, the last three bits of the
-// eleventh are padding.
+// The 85-bit navigation string of GLONASS: its bits, check and repair, and the numbers that say no.
+// A string is eleven bytes: bit 85 is the top bit of the first, the last three bits of the eleventh
+// are padding.
 mod bits;
 mod checking;
 mod hamming;
 mod numbers;
-mod relative;
 
 pub use bits::bit;
 pub use bits::flip_bit;
@@ -16,8 +15,6 @@ pub use hamming::Ruling;
 pub use hamming::examine;
 pub use hamming::make_check_bits;
 pub use numbers::number_of;
-pub use relative::from_relative;
-pub use relative::to_relative;
 
 // The numbers that say no, in the paper's order. RANGE tells its place: the top bit number of the
 // word that failed.

@@ -22,14 +22,14 @@ use Rattle.strings.specs.Hamming.{ruling, isDamaged, mended}
 use Rattle.strings.specs.Calls.{noRoom, isIdle}
 use Rattle.strings.proofs.Below.{and-left, and-right, below, below-at, unfit}
 use Rattle.words.specs.declared.table.Word.{Word}
-use Rattle.words.specs.declared.kinds.Kind.{Kind}
-use Rattle.words.specs.declared.kinds.Kind.the-variants.{One, Two, Three, Four, Five, Even, Odd, Fourteen}
-use Rattle.words.specs.declared.records.Record.{Record}
+use Rattle.records.specs.declared.kinds.Kind.{Kind}
+use Rattle.records.specs.declared.kinds.Kind.the-variants.{One, Two, Three, Four, Five, Even, Odd, Fourteen}
+use Rattle.records.specs.declared.named.Record.{Record}
 use Rattle.words.specs.declared.reading.Reading.the-variants.{Refused}
 use Rattle.words.specs.Layout.{layout, none, word, ofKind}
 use Rattle.words.specs.Signed.{signedAt}
 use Rattle.words.specs.Values.{valueIn, leastOf, mostOf, isTime, inRange, valuesOf, firstBad}
-use Rattle.words.specs.Records.{kindOf, listOf}
+use Rattle.records.specs.Records.{kindOf, listOf}
 use Rattle.words.specs.Calls.{numberIn, Reads, Writes}
 use Rattle.words.specs.Tidied.{wordAt, bitsIn}
 use Rattle.words.proofs.EveryKind.{kinds, every, every-kind}
@@ -182,6 +182,17 @@ said w f m t raw h = same _ _ (below-at m (λ raw. Bool·beq (inRange w (valueIn
     same false true t = absurd t
     same false false t = refl
 
+-- tk and NA, by their ends
+and-all : (a : Bool) → (a && true) ≡ a
+and-all true = refl
+and-all false = refl
+
+time-said : (raw : ℕ) → raw < 4096 → inRange (word 2 76 65) (valueIn (word 2 76 65) raw) ≡ isTime raw
+time-said raw h = rw (le-leb 0 raw (omega arith), le-leb raw 4095 (omega arith))
+
+day-said : (raw : ℕ) → inRange (word 4 80 70) (valueIn (word 4 80 70) raw) ≡ (leb 1 raw && leb raw 1461)
+day-said raw = and-all (leb 1 raw && leb raw 1461)
+
 -- the hour and the minute in tk
 pub hour : (n : ℕ) → wordOf n 76 65 / 128 ≡ wordOf n 76 72
 unfolding wordOf
@@ -197,7 +208,7 @@ pub reading-fails : (n : ℕ) (k : Kind) → firstBad (layout k) (valuesOf n (la
 unfolding layout
 reading-fails n One =
     other-bad n (layout One)
-    ∙ ap (λ (b : Bool). pick b 0 76) (said (word 2 76 65) isTime 4096 tt (wordOf n 76 65) (word-lt n 76 65) ∙ ap₂ (λ (h m : ℕ). ltb h 24 && ltb m 60) (hour n) (minute n))
+    ∙ ap (λ (b : Bool). pick b 0 76) (time-said (wordOf n 76 65) (word-lt n 76 65) ∙ ap₂ (λ (h m : ℕ). ltb h 24 && ltb m 60) (hour n) (minute n))
 reading-fails n Two =
     other-bad n (layout Two)
     ∙ ap (λ (b : Bool). pick b 0 76) (said (word 3 76 70) (λ raw. leb 1 raw && leb raw 95) 128 tt (wordOf n 76 70) (word-lt n 76 70))
@@ -205,7 +216,7 @@ reading-fails n Three = other-bad n (layout Three)
 reading-fails n Four = other-bad n (layout Four)
 reading-fails n Five =
     other-bad n (layout Five)
-    ∙ ap (λ (b : Bool). pick b 0 80) (said (word 4 80 70) (λ raw. leb 1 raw && leb raw 1461) 2048 tt (wordOf n 80 70) (word-lt n 80 70))
+    ∙ ap (λ (b : Bool). pick b 0 80) (day-said (wordOf n 80 70))
 reading-fails n Even =
     other-bad n (layout Even)
     ∙ ap (λ (b : Bool). pick b 0 77) (said (word 5 77 73) (λ raw. leb 1 raw && leb raw 24) 32 tt (wordOf n 77 73) (word-lt n 77 73))
@@ -317,10 +328,6 @@ range-by w e z false q h t =
     let l = same-z (leastOf w) (e .least) (and-left (sameZ (leastOf w) (e .least)) _ t) in
     let m = same-z (mostOf w) (e .most) (and-right (sameZ (leastOf w) (e .least)) _ t) in
     and-all _ ∙ ap₂ (λ (a b : ℤ). leZ a z && leZ z b) l m
-  where
-    and-all : (a : Bool) → (a && true) ≡ a
-    and-all true = refl
-    and-all false = refl
 
 pub range-is : (k : Kind) (j : ℕ) → j < 8 → (wordAt k j .form ≡ 2 → ⊥) → (z : ℤ) → inRange (wordAt k j) z ≡ (leZ (endAt k j .least) z && leZ z (endAt k j .most))
 range-is k j l h z =

@@ -26,13 +26,13 @@ use Rattle.strings.proofs.Below.{unfit}
 use Rattle.strings.proofs.Judge.{mended-lt}
 use Rattle.strings.proofs.Shape.{shaped, has-room}
 use Rattle.strings.proofs.Value.{Bytes, number-lt, string-number}
-use Rattle.words.specs.declared.kinds.Kind.{Kind}
-use Rattle.words.specs.declared.records.Record.{Record}
+use Rattle.records.specs.declared.kinds.Kind.{Kind}
+use Rattle.records.specs.declared.named.Record.{Record}
 use Rattle.words.specs.declared.reading.Reading.{Reading}
 use Rattle.words.specs.declared.reading.Reading.the-variants.{Read, Refused}
 use Rattle.words.specs.Layout.{layout, kindNumber}
 use Rattle.words.specs.Values.{valuesOf}
-use Rattle.words.specs.Records.{kindOf, listOf, recordOf}
+use Rattle.records.specs.Records.{kindOf, listOf, recordOf}
 use Rattle.words.specs.Calls.{numberIn, wordTests, readingWords, ReadsBy, Reads}
 use Rattle.words.proofs.RecordLists.{record-kind, record-values}
 

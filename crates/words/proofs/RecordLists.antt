@@ -11,13 +11,13 @@ use lib.Dec.{eqb, leb, lit≤}
 use lib.IntN.{ℤ}
 use lib.ListN.{length}
 use Rattle.strings.specs.Number.{wordOf}
-use Rattle.words.specs.declared.kinds.Kind.{Kind}
-use Rattle.words.specs.declared.kinds.Kind.the-variants.{One, Two, Three, Four, Five, Even, Odd, Fourteen}
-use Rattle.words.specs.declared.records.Record.{Record}
-use Rattle.words.specs.declared.records.Record.the-variants.{One as One′, Two as Two′, Three as Three′, Four as Four′, Five as Five′, Even as Even′, Odd as Odd′, Fourteen as Fourteen′}
+use Rattle.records.specs.declared.kinds.Kind.{Kind}
+use Rattle.records.specs.declared.kinds.Kind.the-variants.{One, Two, Three, Four, Five, Even, Odd, Fourteen}
+use Rattle.records.specs.declared.named.Record.{Record}
+use Rattle.records.specs.declared.named.Record.the-variants.{One as One′, Two as Two′, Three as Three′, Four as Four′, Five as Five′, Even as Even′, Odd as Odd′, Fourteen as Fourteen′}
 use Rattle.words.specs.Layout.{layout, kindNumber, ofKind}
 use Rattle.words.specs.Values.{valuesOf, firstBad, dataOf}
-use Rattle.words.specs.Records.{kindOf, listOf, recordOf}
+use Rattle.records.specs.Records.{kindOf, listOf, recordOf}
 use Rattle.words.proofs.EveryKind.{kindAt, kind-back}
 use Rattle.words.proofs.Trip.{and-both, kind-data-lt}
 

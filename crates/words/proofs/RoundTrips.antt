@@ -34,14 +34,14 @@ use Rattle.strings.proofs.CheckRule.{Whole, encoded-clean}
 use Rattle.strings.proofs.Flips.{encoded-ruling}
 use Rattle.strings.proofs.Judge.{mended-by}
 use Rattle.words.specs.declared.table.Word.{Word}
-use Rattle.words.specs.declared.kinds.Kind.{Kind}
-use Rattle.words.specs.declared.records.Record.{Record}
+use Rattle.records.specs.declared.kinds.Kind.{Kind}
+use Rattle.records.specs.declared.named.Record.{Record}
 use Rattle.words.specs.declared.reading.Reading.{Reading}
 use Rattle.words.specs.declared.reading.Reading.the-variants.{Read, Refused}
 use Rattle.words.specs.Layout.{layout, none, kindNumber, ofKind}
 use Rattle.words.specs.Reserved.{inWords}
 use Rattle.words.specs.Values.{valuesOf, firstBad, dataOf}
-use Rattle.words.specs.Records.{kindOf, listOf, recordOf}
+use Rattle.records.specs.Records.{kindOf, listOf, recordOf}
 use Rattle.words.specs.Calls.{numberIn, readTests, readingPaper, readingWords, Reads, writeTests, stringOf, Writes}
 use Rattle.words.specs.Tidied.{wordAt, tidyWords, tidied, Tidy}
 use Rattle.words.proofs.RecordLists.{list-long, record-list, kind-same, of-kind}

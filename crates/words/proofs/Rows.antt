@@ -17,8 +17,8 @@ use Rattle.strings.specs.Pick.{pick}
 use Rattle.strings.specs.Number.{wordOf}
 use Rattle.strings.proofs.Below.{and-left, and-right, below, below-at}
 use Rattle.words.specs.declared.table.Word.{Word}
-use Rattle.words.specs.declared.kinds.Kind.{Kind}
-use Rattle.words.specs.declared.kinds.Kind.the-variants.{One, Two, Three, Four, Five, Even, Odd, Fourteen}
+use Rattle.records.specs.declared.kinds.Kind.{Kind}
+use Rattle.records.specs.declared.kinds.Kind.the-variants.{One, Two, Three, Four, Five, Even, Odd, Fourteen}
 use Rattle.words.specs.Layout.{layout, none, word, Placed, kindNumber}
 use Rattle.words.specs.Values.{valueIn, codeIn, inRange, valuesOf, firstBad, dataOf}
 use Rattle.words.proofs.EveryKind.{kinds, every, every-kind}

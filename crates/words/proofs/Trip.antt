@@ -22,7 +22,7 @@ use Rattle.strings.specs.Number.{wordOf, bitOf}
 use Rattle.strings.proofs.Below.{and-left, and-right, below, below-at}
 use Rattle.strings.proofs.Digits.{three}
 use Rattle.words.specs.declared.table.Word.{Word}
-use Rattle.words.specs.declared.kinds.Kind.{Kind}
+use Rattle.records.specs.declared.kinds.Kind.{Kind}
 use Rattle.words.specs.Layout.{layout, none}
 use Rattle.words.specs.Signed.{signedAt, codeAt}
 use Rattle.words.specs.Values.{width, carrierOf, carrierCode, valueIn, codeIn, leastOf, mostOf, inRange, valuesOf, firstBad, dataOf}

@@ -11,10 +11,10 @@ use Rattle.strings.specs.declared.Written.the-variants.{Done, Refused}
 use Rattle.strings.specs.Number.{stringBytes}
 use Rattle.strings.proofs.Shape.{has-room, no-room}
 use Rattle.strings.proofs.Answer.{refuses, goes-on, takes}
-use Rattle.words.specs.declared.records.Record.{Record}
+use Rattle.records.specs.declared.named.Record.{Record}
 use Rattle.words.specs.Layout.{layout, ofKind}
 use Rattle.words.specs.Values.{firstBad}
-use Rattle.words.specs.Records.{kindOf, listOf}
+use Rattle.records.specs.Records.{kindOf, listOf}
 use Rattle.words.specs.Calls.{Writes, stringOf}
 
 module _ (m : ℕ) (r : Record) (out : List ℕ) where

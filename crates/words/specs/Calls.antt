@@ -12,13 +12,13 @@ use Rattle.strings.specs.Number.{numberOf, wordOf, stringBytes}
 use Rattle.strings.specs.Hamming.{mended, encode}
 use Rattle.strings.specs.Numbers.{refusalPaper, Test, test, testAt, firstOf, answerOf, Answers}
 use Rattle.strings.specs.Calls.{stringTests, noRoom, writtenPaper}
-use Rattle.words.specs.declared.kinds.Kind.{Kind}
-use Rattle.words.specs.declared.records.Record.{Record}
+use Rattle.records.specs.declared.kinds.Kind.{Kind}
+use Rattle.records.specs.declared.named.Record.{Record}
 use Rattle.words.specs.declared.reading.Reading.{Reading}
 use Rattle.words.specs.declared.reading.Reading.the-variants.{Read, Refused}
 use Rattle.words.specs.Layout.{layout, kindNumber, ofKind}
 use Rattle.words.specs.Values.{valuesOf, firstBad, dataOf}
-use Rattle.words.specs.Records.{kindOf, listOf}
+use Rattle.records.specs.Records.{kindOf, listOf}
 
 -- "Bits 84 to 81 are the string number m"
 abbrev pub numberIn : ℕ → ℕ

@@ -7,7 +7,7 @@ use Rattle.strings.specs.Number.{numberOf, paddingOf, misshapen, wordOf}
 use Rattle.strings.specs.Hamming.{position, sumC, sumAll, syndrome, howMany, highest, placed, judge, ruling, mended}
 use Rattle.strings.specs.Numbers.{firstOf}
 use Rattle.strings.specs.Known.{zeros}
-use Rattle.words.specs.declared.kinds.Kind.{Kind}
+use Rattle.records.specs.declared.kinds.Kind.{Kind}
 use Rattle.words.specs.Layout.{word}
 use Rattle.words.specs.Calls.{readTests}
 use Rattle.words.specs.Values.{valueIn, inRange}

@@ -1,7 +1,7 @@
 pub mod Signed
 pub mod Layout
 pub mod Values
-pub mod Records
+pub mod Immediate
 pub mod Calls
 pub mod Reserved
 pub mod Tidied

@@ -7,8 +7,8 @@ use mathlib.Core.List.{List, [], _∷_, _++_}
 use lib.Dec.{T, eqb, leb}
 use Rattle.strings.specs.Table413.{_to_}
 use Rattle.words.specs.declared.table.Word.{Word}
-use Rattle.words.specs.declared.kinds.Kind.{Kind}
-use Rattle.words.specs.declared.kinds.Kind.the-variants.{One, Two, Three, Four, Five, Even, Odd, Fourteen}
+use Rattle.records.specs.declared.kinds.Kind.{Kind}
+use Rattle.records.specs.declared.kinds.Kind.the-variants.{One, Two, Three, Four, Five, Even, Odd, Fourteen}
 use Rattle.words.specs.Layout.{layout}
 
 -- the printed lists; the almanac's strings have none. (The table also has string 15 of frame 5, bits 10 to 80: that string is none of the kinds)

@@ -11,7 +11,7 @@ use Rattle.strings.specs.Pick.{pick}
 use Rattle.strings.specs.Number.{wordOf, bitOf}
 use Rattle.strings.specs.Hamming.{Encoded, encode}
 use Rattle.words.specs.declared.table.Word.{Word}
-use Rattle.words.specs.declared.kinds.Kind.{Kind}
+use Rattle.records.specs.declared.kinds.Kind.{Kind}
 use Rattle.words.specs.Layout.{layout, none}
 use Rattle.words.specs.Reserved.{inWords}
 use Rattle.words.specs.Calls.{numberIn}

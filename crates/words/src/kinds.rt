@@ -1,21 +1,10 @@
-// The eight kinds of string, and which string numbers each has.
+// The place of each kind in the table, and which string numbers it has.
+use records::Kind;
 ghost use mathlib.Core.Path.{_≡_};
 ghost use mathlib.Core.Bool.{_&&_};
 ghost use Prim.Native.Nat.{_+_, _%_, _<_};
 ghost use lib.Dec.{eqb, leb};
 ghost use Rattle.words.specs.Layout.{kindNumber, ofKind};
-
-// Strings 1 to 5, the even and the odd strings of an almanac entry, and string 14 of frame 5.
-pub enum Kind {
-    One,
-    Two,
-    Three,
-    Four,
-    Five,
-    Even,
-    Odd,
-    Fourteen,
-}
 
 // The place of a kind's words in the table.
 pub fn row_of(k: Kind) -> usize

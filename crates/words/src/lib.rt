@@ -1,31 +1,14 @@
 // The words of a string: one table, and the reader and the encoder of the eight kinds.
 mod kinds;
 mod reading;
-mod records;
 mod table;
 mod values;
 mod writing;
 
-pub use kinds::Kind;
 pub use kinds::is_of_kind;
 pub use reading::Reading;
 pub use reading::immediate_words;
 pub use reading::read_words;
-pub use records::EvenString;
-pub use records::ImmediateWords;
-pub use records::OddString;
-pub use records::Record;
-pub use records::String1;
-pub use records::String2;
-pub use records::String3;
-pub use records::String4;
-pub use records::String5;
-pub use records::String14;
-pub use records::even_of;
-pub use records::kind_of;
-pub use records::list_of;
-pub use records::odd_of;
-pub use records::record_of;
 pub use values::magnitude;
 pub use values::number_in;
 pub use values::values_in;

@@ -1,23 +1,23 @@
 // The reader.
-use crate::kinds::Kind;
 use crate::kinds::is_of_kind;
-use crate::records::ImmediateWords;
-use crate::records::Record;
-use crate::records::record_of;
-use crate::records::string1_of;
-use crate::records::string2_of;
-use crate::records::string3_of;
-use crate::records::string4_of;
 use crate::values::first_bad;
 use crate::values::number_in;
 use crate::values::values_in;
+use records::ImmediateWords;
+use records::Kind;
+use records::Record;
+use records::record_of;
+use records::string1_of;
+use records::string2_of;
+use records::string3_of;
+use records::string4_of;
 use strings::Checked;
 use strings::Refusal;
 ghost use mathlib.Core.Path.{_≡_};
 ghost use lib.ListN.{length};
 ghost use Rattle.strings.specs.Number.{numberOf};
 ghost use Rattle.words.specs.Calls.{Reads, ReadsBy, wordTests};
-ghost use Rattle.words.specs.Records.{immediateOf};
+ghost use Rattle.words.specs.Immediate.{immediateOf};
 
 // The reader's answer: m and the words of the kind asked, or why not.
 pub enum Reading {

@@ -1,6 +1,6 @@
 // The words of the eight kinds (ICD Tables 4.6 and 4.11).
-use crate::kinds::Kind;
 use crate::kinds::row_of;
+use records::Kind;
 ghost use mathlib.Core.Path.{_≡_};
 ghost use Prim.Native.Nat.{_<_};
 ghost use lib.ListN.{getD};

@@ -1,7 +1,7 @@
 // The value of a word: from its bits, to its bits, and its range.
-use crate::kinds::Kind;
 use crate::table::Word;
 use crate::table::word_at;
+use records::Kind;
 ghost use mathlib.Core.Path.{_≡_};
 ghost use mathlib.Core.Bool.{_&&_};
 ghost use Prim.Native.Nat.{_+_, _-_, _≤_, _<_, _^_};

@@ -1,13 +1,13 @@
 // The encoder.
-use crate::kinds::Kind;
 use crate::kinds::is_of_kind;
-use crate::records::Record;
-use crate::records::kind_of;
-use crate::records::list_of;
 use crate::table::word_at;
 use crate::values::code_of;
 use crate::values::first_bad;
 use crate::values::wide;
+use records::Kind;
+use records::Record;
+use records::kind_of;
+use records::list_of;
 use strings::Refusal;
 use strings::Written;
 ghost use mathlib.Core.Path.{_≡_};

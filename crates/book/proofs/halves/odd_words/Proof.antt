@@ -2,10 +2,10 @@
 use mathlib.Core.Path.{ap, _∙_}
 use native.Mathlib.Omega.{arith}
 use Prim.Native.Nat.{ℕ}
-use Rattle.words.specs.declared.kinds.Kind.the-variants.{Odd}
+use Rattle.records.specs.declared.kinds.Kind.the-variants.{Odd}
 use Rattle.words.specs.Layout.{layout}
 use Rattle.words.specs.Values.{valuesOf}
-use Rattle.words.specs.Records.{oddOf}
+use Rattle.records.specs.Records.{oddOf}
 use Rattle.book.specs.Entry.{oddWords}
 use Rattle.book.proofs.Additions.{half-number}
 use borrow.Author.Needs.{needs}

@@ -5,7 +5,7 @@ use native.Mathlib.Omega.{arith}
 use borrow.Author.Tests.{not-true, not-false}
 use lib.Dec.{leb}
 use Rattle.strings.specs.Number.{numberOf}
-use Rattle.words.specs.declared.kinds.Kind.the-variants.{Five, Even, Odd}
+use Rattle.records.specs.declared.kinds.Kind.the-variants.{Five, Even, Odd}
 use Rattle.words.proofs.WordBits.{word-lt}
 use Rattle.book.specs.Shows.{isGood, fourYears, shownBy}
 use Rattle.book.proofs.Good.{shown-is, day-read}

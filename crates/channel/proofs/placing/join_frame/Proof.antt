@@ -12,7 +12,7 @@ use Rattle.channel.specs.declared.Answer.the-variants.{Taken}
 use Rattle.channel.specs.Frame.{dataIn}
 use Rattle.channel.specs.Row.{isPresent, stringIn}
 use Rattle.channel.proofs.Frames.{number-small}
-use Rattle.channel.proofs.Shows.{string-part}
+use Rattle.channel.proofs.SameData.{string-part}
 use Rattle.channel.proofs.Placement.{joins-new, joins-held, joins-not}
 use borrow.Author.Needs.{needs}
 use Rattle.channel.proofs.placing.join_frame.Statement.{statement}

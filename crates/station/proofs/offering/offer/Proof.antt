@@ -1,24 +1,13 @@
 -- `offering::offer` meets its contract: the row taken out, offered the string and put back, and the book. Assumes nothing.
-use mathlib.Core.Path.{ap₂, _∙_}
-use mathlib.Core.Bool.{Bool}
 use denote.Ref.{now}
-use lib.ListN.{getD, set}
-use Rattle.strings.specs.Pick.{pick}
-use Rattle.book.specs.declared.Book.{Book}
-use Rattle.channel.specs.declared.Row.{Row}
-use Rattle.channel.specs.Row.{frameOf}
-use Rattle.channel.specs.Shows.{showsOf, brought}
-use borrow.Author.Tests.{lt-ltb, le-ltb}
-use Rattle.channel.proofs.HeldFrame.{offered-is, said-by}
-use Rattle.channel.proofs.OnceOnly.{stored-said}
-use Rattle.station.specs.Station.{stationAfter, noRow}
+use Rattle.station.specs.Station.{noRow}
+use Rattle.station.proofs.AfterOffer.{no-channel, after-offer}
 use borrow.Author.Needs.{needs}
 use Rattle.station.proofs.offering.offer.Statement.{statement}
 use Rattle.station.proofs.offering.offer.Tie as tie
 
 returns : tie.Need-returns
-unfolding stationAfter
-returns c = let f = lt-ltb 23 _ (c .if1 .taken) in record { answer = rw f; station = rw f }
+returns c = let a = c .before .before .args in no-channel (a .t1) (a .channel) (a .epoch) (now (a .s)) (c .if1 .taken)
 
 mul-row : tie.Need-mul-row
 mul-row c = search needs
@@ -39,23 +28,12 @@ bring-if-requires : tie.Need-bring-if-requires
 bring-if-requires c κs = search needs
 
 returns-2 : tie.Need-returns-2
-unfolding stationAfter noRow
+unfolding noRow
 returns-2 c =
     let p = c .before .before .before in
     let a = p .before .before .before .before .args in
-    let st = a .t1 in
-    let row = getD (st .rows) (a .channel) noRow in
-    let s = now (a .s) in
-    let f = le-ltb 23 (a .channel) (p .before .before .if1 .left) in
-    let o = p .offer .ensures in
-    let i = offered-is row (a .epoch) s (p .offer .result) o in
-    record {
-      answer = rw f (said-by row (a .epoch) s (p .offer .result) o);
-      station = rw f
-          (ap₂ (λ (x : Row) (b : Book). record { rows = set (st .rows) (a .channel) x; book = b }) i
-          (c .bring-if .ensures
-          ∙ ap₂ (λ (t : Bool) (x : Row). pick t (brought (st .book) (showsOf (frameOf x))) (st .book)) (stored-said row (a .epoch) s (p .offer .result) o) i));
-    }
+    after-offer (a .t1) (a .channel) (a .epoch) (now (a .s)) (p .offer .result) (c .bring-if .result) (p .before .before .if1 .left) (p .offer .ensures)
+    (c .bring-if .ensures)
 
 pub offer-spec : {M : Type 1} → statement M
 offer-spec =

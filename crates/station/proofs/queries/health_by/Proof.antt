@@ -4,7 +4,7 @@ use native.Mathlib.Omega.{arith}
 use borrow.Author.Tests.{le-leb, lt-leb, eq-eqb, ne-eqb}
 use lib.ListN.{length}
 use borrow.Author.Needs.{needs}
-use Rattle.channel.proofs.Shows.{is-so, is-not}
+use Rattle.shows.proofs.Shows.{is-so, is-not}
 use Rattle.station.specs.Queries.{healthBy}
 use Rattle.station.proofs.Status.{status-is}
 use Rattle.station.proofs.queries.health_by.Statement.{statement}

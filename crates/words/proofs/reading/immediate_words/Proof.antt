@@ -1,11 +1,12 @@
 -- `reading::immediate_words` meets its contract: each record is that of the values in its eleven bytes. Assumes nothing.
 use mathlib.Core.Path.{_≡_, ap, ap₂, _∙_}
-use Rattle.words.specs.declared.records.String1.{String1}
-use Rattle.words.specs.declared.records.String2.{String2}
-use Rattle.words.specs.declared.records.String3.{String3}
-use Rattle.words.specs.declared.records.String4.{String4}
-use Rattle.words.specs.declared.records.ImmediateWords.{ImmediateWords}
-use Rattle.words.specs.Records.{string1Of, string2Of, string3Of, string4Of, immediateOf}
+use Rattle.records.specs.declared.named.String1.{String1}
+use Rattle.records.specs.declared.named.String2.{String2}
+use Rattle.records.specs.declared.named.String3.{String3}
+use Rattle.records.specs.declared.named.String4.{String4}
+use Rattle.records.specs.declared.named.ImmediateWords.{ImmediateWords}
+use Rattle.records.specs.Records.{string1Of, string2Of, string3Of, string4Of}
+use Rattle.words.specs.Immediate.{immediateOf}
 use borrow.Author.Needs.{needs}
 use Rattle.words.proofs.reading.immediate_words.Statement.{statement}
 use Rattle.words.proofs.reading.immediate_words.Tie as tie

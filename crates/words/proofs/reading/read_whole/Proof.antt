@@ -10,7 +10,7 @@ use Rattle.strings.specs.declared.Refusal.the-variants.{Number, Place, Range}
 use Rattle.strings.specs.Number.{numberOf}
 use Rattle.words.specs.Layout.{layout, ofKind}
 use Rattle.words.specs.Values.{valuesOf, firstBad}
-use Rattle.words.specs.Records.{recordOf}
+use Rattle.records.specs.Records.{recordOf}
 use Rattle.words.specs.Calls.{numberIn}
 use Rattle.words.proofs.ReadAnswers.{reads-no, reads-on, reads-yes}
 use borrow.Author.Needs.{needs}

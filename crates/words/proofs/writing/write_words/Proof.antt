@@ -11,10 +11,10 @@ use Rattle.strings.specs.declared.Written.the-variants.{Done}
 use Rattle.strings.specs.Number.{numberOf, paddingOf, stringBytes}
 use Rattle.strings.specs.Hamming.{encode}
 use Rattle.strings.proofs.Value.{string-length, string-number, string-padding, copied}
-use Rattle.words.specs.declared.kinds.Kind.{Kind}
+use Rattle.records.specs.declared.kinds.Kind.{Kind}
 use Rattle.words.specs.Layout.{layout, ofKind}
 use Rattle.words.specs.Values.{firstBad, dataOf}
-use Rattle.words.specs.Records.{kindOf, listOf}
+use Rattle.records.specs.Records.{kindOf, listOf}
 use Rattle.words.specs.Calls.{Writes, stringOf}
 use Rattle.words.proofs.RecordLists.{string-lt}
 use Rattle.words.proofs.WriteAnswers.{write-no-room, write-no-place, write-no-range, write-done}

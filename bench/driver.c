@@ -1,0 +1,81 @@
+/* The calls that are measured. The strings are the superframe that channel 1 hears in data/sample.bin: 75 strings, each
+   plain, with one bit wrong and with two; and offered on four channels at once. */
+#include "rig.h"
+#include "sample.h"
+#include <stdio.h>
+#include <string.h>
+typedef unsigned char u8;
+typedef unsigned long long usize; /* a slice is a pointer and a length of 64 bits, on the Cortex-M0 too */
+extern u8 measured_relative(const u8 *s, usize n, u8 *out, usize room);
+extern u8 measured_check(const u8 *s, usize n, u8 *out, usize room);
+extern u8 measured_read(const u8 *s, usize n, u8 kind, int *words);
+extern u8 measured_write(u8 m, u8 kind, const int *words, u8 *out, usize room);
+extern u8 measured_offers(const u8 *records, usize n);
+extern unsigned long long spineyarrow_offer(void *station, u8 channel, unsigned epoch, const u8 *s, usize n);
+
+enum { STRINGS = 75, CHANNELS = 4, RECORD = 16, KINDS = 8 };
+static u8 sent[STRINGS][11], plain[STRINGS][11], wrong1[STRINGS][11], wrong2[STRINGS][11], out[11];
+static u8 number[STRINGS], kind[STRINGS], records[STRINGS * CHANNELS * RECORD];
+static int words[STRINGS][8], read[8], of_kind[KINDS + 1][STRINGS], many[KINDS + 1], now;
+/* a station lent to the library: 24 rows of 228 bytes and 24 entries of 24; all zero is fresh */
+static struct { u8 rows[24][228], book[24][24]; } __attribute__((aligned(8))) station;
+
+static void turn(u8 *s, int bit) { s[(85 - bit) / 8] ^= 1 << ((bit + 2) % 8); }
+static void relative(int i) { rig_sink = measured_relative(sent[i], 11, out, 11); }
+static void clean(int i) { rig_sink = measured_check(plain[i], 11, out, 11); }
+static void repaired(int i) { rig_sink = measured_check(wrong1[i], 11, out, 11); }
+static void damaged(int i) { rig_sink = measured_check(wrong2[i], 11, out, 11); }
+static void reads(int i) { int j = of_kind[now][i]; rig_sink = measured_read(plain[j], 11, kind[j], read); }
+static void writes(int i) { int j = of_kind[now][i]; rig_sink = measured_write(number[j], kind[j], words[j], out, 11); }
+static void fresh(int i) { rig_sink = measured_offers(records, 0); }
+static void by_value(int i) { rig_sink = measured_offers(records, sizeof records); }
+static void lent(int i) {
+    u8 said = 0;
+    int k;
+    memset(&station, 0, sizeof station);
+    for (k = 0; k < STRINGS * CHANNELS; k++) {
+        const u8 *r = records + RECORD * k;
+        unsigned epoch = (unsigned)r[1] << 24 | r[2] << 16 | r[3] << 8 | r[4];
+        unsigned long long told = spineyarrow_offer(&station, r[0], epoch, r + 5, 11);
+        said ^= told & 255 ? told & 255 : told >> 8 & 255;
+    }
+    rig_sink = said ^ station.book[0][18];
+}
+
+static void take(int n, const u8 *r) {
+    int c;
+    memcpy(sent[n], r + 5, 11);
+    measured_relative(sent[n], 11, plain[n], 11);
+    number[n] = plain[n][0] / 8 % 16;
+    kind[n] = number[n] <= 5 ? number[n] : n >= 60 && number[n] == 14 ? 8 : 6 + number[n] % 2;
+    memcpy(wrong1[n], plain[n], 11);
+    turn(wrong1[n], 9 + n);
+    memcpy(wrong2[n], wrong1[n], 11);
+    turn(wrong2[n], 85 - n % 8);
+    measured_read(plain[n], 11, kind[n], words[n]);
+    of_kind[kind[n]][many[kind[n]]++] = n;
+    for (c = 0; c < CHANNELS; c++) {
+        memcpy(records + RECORD * (n * CHANNELS + c), r, RECORD);
+        records[RECORD * (n * CHANNELS + c)] = c;
+    }
+}
+
+int main(void) {
+    static const char *const name[] = { "", "1", "2", "3", "4", "5", "even", "odd", "14 of frame 5" };
+    char label[40];
+    int i, n = 0;
+    for (i = 0; i < (int)sizeof sample / RECORD; i++)
+        if (sample[RECORD * i] == 1) take(n++, sample + RECORD * i);
+    rig_run("relative-reading", relative, STRINGS);
+    rig_run("check,-clean", clean, STRINGS);
+    rig_run("check,-repaired", repaired, STRINGS);
+    rig_run("check,-damaged", damaged, STRINGS);
+    for (now = 1; now <= KINDS; now++) sprintf(label, "read,-%d", now), rig_run(label, reads, many[now]);
+    for (now = 1; now <= KINDS; now++) sprintf(label, "encode,-%d", now), rig_run(label, writes, many[now]);
+    rig_run("fresh", fresh, 1);
+    rig_run("by-value", by_value, 1);
+    i = rig_sink;
+    rig_run("lent", lent, 1);
+    if (i != (int)rig_sink) printf("DIFFERENT 0\n");
+    return 0;
+}

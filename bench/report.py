@@ -1,0 +1,41 @@
+"""report.py DIR: a table of the counts that bench/run left in DIR, each the mean over its samples."""
+import sys
+
+STRINGS = 75 * 4
+KINDS = ["string 1", "string 2", "string 3", "string 4", "string 5", "an even string", "an odd string", "string 14 of frame 5"]
+
+
+def calls(folder, machine):
+    """For each label the mean instructions and cycles, with what an empty call costs taken off, and the deepest stack."""
+    said = [line.split() for line in open(f"{folder}/{machine}.calls")]
+    if any(words[0] == "DIFFERENT" for words in said):
+        sys.exit(f"{machine}: a lent station and one by value answer differently")
+    counts = [list(map(int, line.split())) for line in open(f"{folder}/{machine}.counts") if line[0] != "t"]
+    empty, table = counts[0], {}
+    for (label, stack), (instructions, cycles) in list(zip(said, counts))[1:]:
+        table.setdefault(label, []).append((instructions - empty[0], cycles - empty[1], int(stack)))
+    return {k: (sum(a for a, _, _ in v) / len(v), sum(b for _, b, _ in v) / len(v), max(c for _, _, c in v)) for k, v in table.items()}
+
+
+def row(name, x86, m0, base=(0, 0, 0), base_m0=(0, 0, 0), share=1):
+    print(
+        f"| {name} | {(x86[0] - base[0]) / share:,.0f} | {(m0[0] - base_m0[0]) / share:,.0f}"
+        f" | {(m0[1] - base_m0[1]) / share:,.0f} | {m0[2]:,} |"
+    )
+
+
+x86, m0 = calls(sys.argv[1], "x86"), calls(sys.argv[1], "m0")
+print("| call, mean | x86-64 instructions | M0 instructions | M0 cycles | M0 stack, bytes |")
+print("|---|---|---|---|---|")
+for label in x86:
+    name, _, which = label.replace("-", " ").partition(", ")
+    if name in ("read", "encode"):
+        which = KINDS[int(which) - 1]
+    if name in ("fresh", "by value", "lent"):
+        continue
+    row(f"{name}, {which}" if which else name, x86[label], m0[label])
+row("an offer, station lent", x86["lent"], m0["lent"], share=STRINGS)
+row("an offer, station by value", x86["by-value"], m0["by-value"], x86["fresh"], m0["fresh"], STRINGS)
+STATION = 24 * 228 + 24 * 24
+print(f"\nMemory of a program with one station on the M0, bytes: lent {STATION + m0['lent'][2]:,}"
+      f" ({STATION:,} resident and {m0['lent'][2]:,} of stack), by value {m0['by-value'][2]:,} of stack")

@@ -1,0 +1,299 @@
+-- Histories of a station and what the rules make of them, computed from the definitions: one table. The sentences in quotes are the client's.
+-- Assumes nothing.
+use Prim.Native.Nat.{ℕ, _+_, _*_, _^_}
+use mathlib.Core.List.{List, [], _∷_, _++_}
+use mathlib.Core.Path.{_≡_, refl, sym, ap₂, _∙_}
+use lib.ListN.{set, replicate}
+use Rattle.strings.specs.Number.{numberOf, paddingOf, misshapen, wordOf, flip, stringBytes}
+use Rattle.relative.specs.Relative.{readRelative, writeRelative}
+use Rattle.strings.specs.Hamming.{position, sumC, sumAll, syndrome, howMany, highest, placed, judge, ruling, mended, sumsMade, encode}
+use Rattle.strings.specs.Numbers.{answerOf}
+use Rattle.words.specs.Layout.{layout}
+use Rattle.words.specs.Values.{valuesOf, firstBad}
+use Rattle.book.specs.declared.Book.{Book}
+use Rattle.book.specs.Entry.{Three, meaning, entryOf, blank, greater}
+use Rattle.book.specs.Shows.{isGood, dayOf, isShown, threeOf, shownBy}
+use Rattle.book.specs.Book.{inSlot, emptyBook, joined, joinedShown}
+use Rattle.channel.specs.declared.Row.{Row}
+use Rattle.tallies.specs.declared.Tallies.{Tallies}
+use Rattle.tallies.specs.Tallies.{oneMore}
+use Rattle.channel.specs.Row.{isPresent, holdsFrame, hasRecord, emptyRow, newFrame, stored, recorded, counted}
+use Rattle.channel.specs.Offers.{takenRow}
+use Rattle.shows.specs.Shows.{frameBy, brought}
+use Rattle.channel.specs.History.{Reset as ResetIt, heldAfter}
+use Rattle.channel.specs.Witness.{whole, inBytes, sent, sentDamaged, one, two, three, four, five, six1, seven, fourteen, fifteen, ten}
+use Rattle.station.specs.declared.Station.{Station}
+use Rattle.station.specs.declared.Health.{Health}
+use Rattle.station.specs.declared.Health.the-variants.{Unknown, Usable, NotUsable}
+use Rattle.station.specs.Station.{freshStation, noRow, rowAt, stationTests, toldIn, stationAfter, stationReset}
+use Rattle.station.specs.Queries.{keptAt, recordTests, entryTests, threeNumbers, judged, healthBy}
+use Rattle.station.specs.History.{Call, Offer, Reset, callsOn, saidAfter, whole as all, earlier, ShownIn, stationOf}
+
+-- ---- strings in bytes, as they are sent, besides those of a channel's table: there `five` is of day 8766, `six1` has nA 1 and C 0, and `four` has n 2.
+-- The table's first fields say which each is
+-- string 6 with nA 2 and C 0; with nA 1 and greater bits than `six1`; with nA 2 and C 1
+unfoldable pub six2 : List ℕ
+six2 = 0x20 ∷ 0x1F ∷ 0xFF ∷ 0xFF ∷ 0xFF ∷ 0xFF ∷ 0xFF ∷ 0xFF ∷ 0xFF ∷ 0xFC ∷ 0x60 ∷ []
+
+unfoldable pub sixAbove : List ℕ
+sixAbove = 0x20 ∷ 0x0F ∷ 0xFF ∷ 0xFF ∷ 0xFF ∷ 0xFF ∷ 0xFF ∷ 0xFF ∷ 0xFF ∷ 0x8C ∷ 0x50 ∷ []
+
+unfoldable pub sixGood : List ℕ
+sixGood = 0x27 ∷ 0xE0 ∷ 0 ∷ 0 ∷ 0 ∷ 0 ∷ 0 ∷ 0 ∷ 0 ∷ 0 ∷ 0x30 ∷ []
+
+-- string 5 of the next day, 8767: N4 7 and NA 1
+unfoldable pub fiveNext : List ℕ
+fiveNext = 0x30 ∷ 0x01 ∷ 0xFF ∷ 0xFF ∷ 0xFF ∷ 0xFF ∷ 0xE8 ∷ 0 ∷ 0 ∷ 0x04 ∷ 0x90 ∷ []
+
+-- string 2 with the top bit of B at 1, and tb 1
+unfoldable pub twoIll : List ℕ
+twoIll = 0x18 ∷ 0x01 ∷ 0xFF ∷ 0xFF ∷ 0xFF ∷ 0xFF ∷ 0xFF ∷ 0xFF ∷ 0xFF ∷ 0xFC ∷ 0x90 ∷ []
+
+-- string 8 with two bits wrong
+unfoldable pub damaged : List ℕ
+damaged = 0x7F ∷ 0xFF ∷ 0xFF ∷ 0xFF ∷ 0xFF ∷ 0xFF ∷ 0xFF ∷ 0xFF ∷ 0xFF ∷ 0xEB ∷ 0x10 ∷ []
+
+-- ---- histories, the latest call first, and the stations that they leave. Frames start at 100; one starts at 115
+-- on channel 3 strings 5 and 6; then string 7
+abbrev pub halfCalls : List Call
+halfCalls = Offer 3 105 six1 ∷ Offer 3 104 five ∷ []
+
+abbrev pub entryCalls : List Call
+entryCalls = Offer 3 106 seven ∷ halfCalls
+
+unfoldable pub half : Station
+half = stationOf halfCalls
+
+unfoldable pub entry : Station
+entry = stationOf entryCalls
+
+-- strings 5 and 6, and then 5 and 7 of the next frame; of another channel
+unfoldable pub twoFrames : Station
+twoFrames = stationOf (Offer 3 121 seven ∷ Offer 3 119 five ∷ halfCalls)
+
+unfoldable pub twoChannels : Station
+twoChannels = stationOf (Offer 7 106 seven ∷ Offer 7 104 five ∷ halfCalls)
+
+-- strings 5 and 6 on two channels, with the same nA and day and other bits; then string 7 on the one and on the other
+abbrev pub tieCalls : List Call
+tieCalls = Offer 7 105 sixAbove ∷ Offer 7 104 five ∷ halfCalls
+
+unfoldable pub greaterLast : Station
+greaterLast = stationOf (Offer 7 106 seven ∷ Offer 3 106 seven ∷ tieCalls)
+
+unfoldable pub greaterFirst : Station
+greaterFirst = stationOf (Offer 3 106 seven ∷ Offer 7 106 seven ∷ tieCalls)
+
+-- what these two leave, written out: the strings, plain; a row with strings 5, 6 and 7, all clean, and no record; rows 3 and 7 among empty ones; the book
+abbrev pub plainFive : List ℕ
+plainFive = 0x2D ∷ 0xB5 ∷ 0 ∷ 0 ∷ 0 ∷ 0 ∷ 0x18 ∷ 0 ∷ 0 ∷ 0x02 ∷ 0x60 ∷ []
+
+abbrev pub plainSix : List ℕ
+plainSix = 0x30 ∷ 0x08 ∷ 0 ∷ 0 ∷ 0 ∷ 0 ∷ 0 ∷ 0 ∷ 0 ∷ 0x06 ∷ 0x58 ∷ []
+
+abbrev pub plainSixAbove : List ℕ
+plainSixAbove = 0x30 ∷ 0x08 ∷ 0 ∷ 0 ∷ 0 ∷ 0 ∷ 0 ∷ 0 ∷ 0 ∷ 0x4A ∷ 0x78 ∷ []
+
+abbrev pub plainSeven : List ℕ
+plainSeven = 0x38 ∷ 0 ∷ 0 ∷ 0 ∷ 0 ∷ 0 ∷ 0 ∷ 0 ∷ 0 ∷ 0x22 ∷ 0xA8 ∷ []
+
+abbrev pub heldRow : List ℕ → Row
+heldRow sixth =
+    record {
+      strings = replicate 44 0 ++ (plainFive ++ (sixth ++ (plainSeven ++ replicate 88 0)));
+      start = 100;
+      present = 0b1110000;
+      immediate = record { strings = replicate 44 0 };
+      tallies = record { offered = 3; clean = 3; repaired = 0; refused = 0 };
+    }
+
+unfoldable pub tiedRows : List Row
+tiedRows = replicate 3 emptyRow ++ (heldRow plainSix ∷ (replicate 3 emptyRow ++ (heldRow plainSixAbove ∷ replicate 16 emptyRow)))
+
+unfoldable pub tiedBook : Book
+tiedBook = record { entries = record { even = 9; odd = 2; day = 8766; etop = 1; otop = 0 } ∷ replicate 23 blank }
+
+-- the same, but channel 3 has the next day with the lesser bits
+unfoldable pub nextDay : Station
+nextDay =
+    stationOf (Offer 7 106 seven ∷ Offer 3 106 seven ∷ Offer 7 105 sixAbove ∷ Offer 7 104 five ∷ Offer 3 105 six1 ∷ Offer 3 104 fiveNext ∷ [])
+
+-- string 6 after 5, 7, 14 and 15
+unfoldable pub sixLast : Station
+sixLast = stationOf (Offer 3 105 six1 ∷ Offer 3 114 fifteen ∷ Offer 3 113 fourteen ∷ Offer 3 106 seven ∷ Offer 3 104 five ∷ [])
+
+-- strings 1..4 on channel 3, string 2 being as given; then an entry on channel 7, string 6 being as given
+abbrev pub recordCalls : List ℕ → List Call
+recordCalls second = Offer 3 103 four ∷ Offer 3 102 three ∷ Offer 3 101 second ∷ Offer 3 100 one ∷ []
+
+abbrev pub thenEntry : List ℕ → List Call → List Call
+thenEntry sixth cs = Offer 7 106 seven ∷ Offer 7 105 sixth ∷ Offer 7 104 five ∷ cs
+
+unfoldable pub recordAlone : Station
+recordAlone = stationOf (recordCalls two)
+
+unfoldable pub goodEntry : Station
+goodEntry = stationOf (thenEntry sixGood (recordCalls two))
+
+unfoldable pub illEntry : Station
+illEntry = stationOf (thenEntry six2 (recordCalls two))
+
+unfoldable pub illRecord : Station
+illRecord = stationOf (thenEntry sixGood (recordCalls twoIll))
+
+-- ---- what is told of them
+-- the entry of slot 1 that strings 5, `six1` and 7 show
+abbrev pub lesser : Three
+lesser = record { day = 8766; even = 18446744073709551616; odd = 2 }
+
+abbrev pub slotOf : Station → ℕ → Three
+slotOf st k = meaning (inSlot (st .book) k)
+
+abbrev pub entryAsked : Station → ℕ → List ℕ
+entryAsked st k = answerOf (entryTests st k) (threeNumbers (slotOf st k))
+
+abbrev pub healthOf : Station → ℕ → Health
+healthOf st c = healthBy (keptAt st c) (st .book)
+
+-- a row with other tallies; a station with other tallies in one row
+abbrev pub withTallies : Tallies → Row → Row
+withTallies t row = record { strings = row .strings; start = row .start; present = row .present; immediate = row .immediate; tallies = t }
+
+abbrev pub talliesMoved : Station → ℕ → Tallies → Station
+talliesMoved st c t = record { rows = set (st .rows) c (withTallies t (rowAt st c)); book = st .book }
+
+pub record Witness : Type 0 where
+  -- ---- the strings
+  pub six2-sent : six2 ≡ sent 6 (2 * 2 ^ 64)
+  pub sixAbove-sent : sixAbove ≡ sent 6 (2 ^ 64 + 9)
+  pub sixGood-sent : sixGood ≡ sent 6 (2 ^ 71 + 2 * 2 ^ 64)
+  pub fiveNext-sent : fiveNext ≡ sent 5 (2 ^ 61 + 7 * 2 ^ 23)
+  pub twoIll-sent : twoIll ≡ sent 2 (2 ^ 71 + 2 ^ 61)
+  pub damaged-sent : damaged ≡ sentDamaged 8 0 9 10
+  -- ---- the book
+  -- strings 5, 6 and 7 of one frame show an entry: its day, and the bits of its two halves
+  pub entry-there : slotOf entry 1 ≡ record { day = 8766; even = 18446744073709551616; odd = 2 }
+  pub entry-asked : entryAsked entry 1 ≡ 0 ∷ 8766 ∷ 18446744073709551616 ∷ 2 ∷ []
+  -- and it is shown still when the row was reset: "that any channel has shown since the start"
+  pub entry-shown : ShownIn (Reset 3 ∷ entryCalls) 1 lesser
+  -- one half never came: "a slot is empty exactly when none was shown"
+  pub half-missing : inSlot (half .book) 1 .day ≡ 0
+  pub half-asked : entryAsked half 1 ≡ 13 ∷ []
+  -- "both halves and the day coming from one frame of one channel"
+  pub two-frames : twoFrames .book ≡ emptyBook
+  pub two-channels : twoChannels .book ≡ emptyBook
+  -- an equal day: the slot holds the greater bits, in either order
+  pub tie-last : slotOf greaterLast 1 ≡ record { day = 8766; even = 18446744073709551625; odd = 2 }
+  pub tie-first : slotOf greaterFirst 1 ≡ record { day = 8766; even = 18446744073709551625; odd = 2 }
+  -- and the two whole stations are the one that is written out above
+  pub last-rows : greaterLast .rows ≡ tiedRows
+  pub last-book : greaterLast .book ≡ tiedBook
+  pub first-rows : greaterFirst .rows ≡ tiedRows
+  pub first-book : greaterFirst .book ≡ tiedBook
+  -- as are the answers
+  pub answer-alone : saidAfter tieCalls (Offer 3 106 seven) ≡ 0 ∷ 7 ∷ 0 ∷ 0 ∷ 1 ∷ []
+  pub answer-after : saidAfter (Offer 7 106 seven ∷ tieCalls) (Offer 3 106 seven) ≡ 0 ∷ 7 ∷ 0 ∷ 0 ∷ 1 ∷ []
+  -- "by day and then by bits"
+  pub next-day : slotOf nextDay 1 ≡ record { day = 8767; even = 18446744073709551616; odd = 2 }
+  -- "Each string newly stored brings all entries that its frame then shows to the book"
+  pub six-last-1 : slotOf sixLast 1 ≡ lesser
+  pub six-last-5 : slotOf sixLast 5 ≡ record { day = 8766; even = 92233720368547758338; odd = 55340232221128654854 }
+  -- ---- "a refused string changes nothing but its channel's tallies of strings offered and refused"
+  pub tallies-before : rowAt entry 3 .tallies ≡ record { offered = 3; clean = 3; repaired = 0; refused = 0 }
+  pub refused-said : answerOf (stationTests entry 3 107 damaged) (toldIn entry 3 107 damaged) ≡ 3 ∷ []
+  pub refused-leaves : stationOf (Offer 3 107 damaged ∷ entryCalls) ≡ talliesMoved entry 3 (record { offered = 4; clean = 3; repaired = 0; refused = 1 })
+  -- "one already held changes only tallies"
+  pub again-said : answerOf (stationTests entry 3 106 seven) (toldIn entry 3 106 seven) ≡ 0 ∷ 7 ∷ 0 ∷ 0 ∷ 0 ∷ []
+  pub again-leaves : stationOf (Offer 3 106 seven ∷ entryCalls) ≡ talliesMoved entry 3 (record { offered = 4; clean = 4; repaired = 0; refused = 0 })
+  -- "CHANNEL changes nothing at all", and is tested first: ten bytes. Channel 23 is the last
+  pub channel-said : answerOf (stationTests entry 24 107 ten) (toldIn entry 24 107 ten) ≡ 1 ∷ []
+  pub channel-leaves : stationOf (Offer 24 107 one ∷ entryCalls) ≡ entry
+  pub channel-23 : answerOf (stationTests entry 23 107 one) (toldIn entry 23 107 one) ≡ 0 ∷ 1 ∷ 0 ∷ 0 ∷ 1 ∷ []
+  pub no-reset-said : saidAfter entryCalls (Reset 24) ≡ 1 ∷ []
+  pub no-reset-leaves : stationOf (Reset 24 ∷ entryCalls) ≡ entry
+  -- ---- "A reset empties the row, record and tallies; the book stays"
+  pub reset-said : saidAfter entryCalls (Reset 3) ≡ 0 ∷ []
+  pub reset-leaves : stationOf (Reset 3 ∷ entryCalls) ≡ record { rows = freshStation .rows; book = entry .book }
+  pub reset-record : stationOf (Reset 3 ∷ recordCalls two) ≡ freshStation
+  -- ---- health
+  -- "usable if the record has the top bit of B at 0 and the entry has C = 1, and not usable if either fails"
+  pub usable : healthOf goodEntry 3 ≡ Usable
+  pub not-by-C : healthOf illEntry 3 ≡ NotUsable
+  pub not-by-B : healthOf illRecord 3 ≡ NotUsable
+  -- "Without a record, or without a book entry for its n, a channel's satellite is unknown"
+  pub no-record : healthOf goodEntry 7 ≡ Unknown
+  pub no-entry : healthOf recordAlone 3 ≡ Unknown
+  -- ---- "Queries: 1 or 14, then 13"
+  pub slot-0 : entryAsked entry 0 ≡ 14 ∷ []
+  pub slot-25 : entryAsked entry 25 ≡ 14 ∷ []
+  pub record-there : answerOf (recordTests goodEntry 3) [] ≡ 0 ∷ []
+  pub record-absent : answerOf (recordTests goodEntry 7) [] ≡ 13 ∷ []
+  pub record-channel : answerOf (recordTests goodEntry 24) [] ≡ 1 ∷ []
+
+pub witness : Witness
+unfolding whole inBytes sent sentDamaged one two three four five six1 seven fourteen fifteen six2 sixAbove sixGood fiveNext twoIll damaged numberOf paddingOf misshapen wordOf flip stringBytes readRelative writeRelative position sumC sumAll syndrome howMany highest placed judge ruling mended sumsMade encode layout valuesOf firstBad entryOf greater isGood dayOf isShown threeOf shownBy emptyBook joined joinedShown oneMore isPresent holdsFrame hasRecord emptyRow newFrame stored recorded counted takenRow frameBy brought heldAfter freshStation noRow stationAfter stationReset judged healthBy callsOn saidAfter stationOf half entry twoFrames twoChannels greaterLast greaterFirst tiedRows tiedBook nextDay sixLast recordAlone goodEntry illEntry illRecord
+witness =
+    record {
+      six2-sent = refl;
+      sixAbove-sent = refl;
+      sixGood-sent = refl;
+      fiveNext-sent = refl;
+      twoIll-sent = refl;
+      damaged-sent = refl;
+      entry-there = refl;
+      entry-asked = refl;
+      entry-shown =
+          record {
+            channel = 3;
+            served = refl;
+            moment = callsOn 3 entryCalls;
+            within = earlier ResetIt (callsOn 3 entryCalls) (callsOn 3 entryCalls) (all (callsOn 3 entryCalls));
+            pair = 6;
+            named = refl;
+            shows = refl;
+          };
+      half-missing = refl;
+      half-asked = refl;
+      two-frames = refl;
+      two-channels = refl;
+      tie-last = refl;
+      tie-first = refl;
+      last-rows = refl;
+      last-book = refl;
+      first-rows = refl;
+      first-book = refl;
+      answer-alone = refl;
+      answer-after = refl;
+      next-day = refl;
+      six-last-1 = refl;
+      six-last-5 = refl;
+      tallies-before = refl;
+      refused-said = refl;
+      refused-leaves = refl;
+      again-said = refl;
+      again-leaves = refl;
+      channel-said = refl;
+      channel-leaves = refl;
+      channel-23 = refl;
+      no-reset-said = refl;
+      no-reset-leaves = refl;
+      reset-said = refl;
+      reset-leaves = refl;
+      reset-record = refl;
+      usable = refl;
+      not-by-C = refl;
+      not-by-B = refl;
+      no-record = refl;
+      no-entry = refl;
+      slot-0 = refl;
+      slot-25 = refl;
+      record-there = refl;
+      record-absent = refl;
+      record-channel = refl;
+    }
+
+-- so: "Exchange two neighbouring calls on different channels: .. the whole station afterwards are unchanged"
+pub exchanged : greaterLast ≡ greaterFirst
+exchanged =
+    ap₂ (λ (rows : List Row) (book : Book). record { rows = rows; book = book }) (witness .last-rows ∙ sym (witness .first-rows))
+    (witness .last-book ∙ sym (witness .first-book))

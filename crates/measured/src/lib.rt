@@ -1,0 +1,10 @@
+// The calls that bench/ measures, exported for C. Each answers a number, so that no result is
+// left unused.
+mod parts;
+mod whole;
+
+pub use parts::measured_check;
+pub use parts::measured_read;
+pub use parts::measured_relative;
+pub use parts::measured_write;
+pub use whole::measured_offers;

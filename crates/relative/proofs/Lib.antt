@@ -1,0 +1,2 @@
+pub mod RelativeCode
+pub mod Symbols

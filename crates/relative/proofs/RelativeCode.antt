@@ -1,0 +1,248 @@
+-- The relative code: what the paper says of it, over numbers and over what the public calls answer and leave.
+-- Assumes nothing.
+use mathlib.Core.Path.{_≡_, refl, _∙_, subst, sym, ap, ap₂}
+use mathlib.Core.Bool.{Bool, true, false}
+use mathlib.Core.List.{List}
+use mathlib.Core.Logic.{⊎-elim, _⊎_, inl, inr}
+use Prim.Native.Nat.{ℕ, zero, suc, _+_, _-_, _%_, _^_, _≤_, _<_}
+use native.Mathlib.Nat.{mod-lt, zero-lt-suc, ne-of-lt, eq-or-lt-of-le, le-of-suc-le-suc}
+use native.Mathlib.Omega.{arith}
+use lib.Bits.{xor-lt}
+use lib.Dec.{eqb, lit<, lit≤}
+use lib.ListN.{length}
+use lib.Pow.{ones-lt}
+use borrow.Author.Tests.{ne-eqb}
+use Rattle.strings.specs.declared.Written.{Written}
+use Rattle.strings.specs.declared.Written.the-variants.{Done, Refused}
+use Rattle.strings.specs.declared.Refusal.the-variants.{Shape, Idle, Room}
+use Rattle.strings.specs.Pick.{pick}
+use Rattle.strings.specs.Number.{bitOf, fromBits, numberOf, misshapen, stringBytes}
+use Rattle.relative.specs.Relative.{sent, writeRelative, readBit, readRelative, inverse}
+use Rattle.strings.specs.Numbers.{Test, Answers, Exactly}
+use Rattle.strings.specs.Calls.{writtenPaper, isIdle}
+use Rattle.relative.specs.Calls.{readingTests, writingTests, ReadsRelative, WritesRelative}
+use Rattle.strings.proofs.Digits.{bit-lt, bit-xor, bits-same, from-lt, bit-from, high-bit}
+use Rattle.strings.proofs.Value.{string-number}
+use Rattle.strings.proofs.Answer.{refuses, goes-on, takes, same-answer, written-same, exactly}
+use Rattle.strings.proofs.Shape.{string-shaped, has-room, no-room}
+
+-- ---- the bits of what is read and of what is written, and their bounds: bit 85 is read as 0
+pub pick-lt : (b : Bool) (m n : ℕ) → m < 2 → n < 2 → pick b m n < 2
+pick-lt true m n h k = h
+pick-lt false m n h k = k
+
+read-bit-lt : (x i : ℕ) → readBit x i < 2
+read-bit-lt x i = pick-lt (eqb i 85) 0 ((bitOf x i + bitOf x (i + 1)) % 2) (zero-lt-suc 1) (mod-lt (bitOf x i + bitOf x (i + 1)) (zero-lt-suc 1))
+
+pub sent-lt : (n k : ℕ) → sent n k < 2
+sent-lt n zero = zero-lt-suc 1
+sent-lt n (suc k) = mod-lt (bitOf n (85 - k) + sent n k) (zero-lt-suc 1)
+
+pub bit-read : (x i : ℕ) → 1 ≤ i → i ≤ 85 → bitOf (readRelative x) i ≡ readBit x i
+unfolding readRelative
+bit-read x i = bit-from (readBit x) (read-bit-lt x) 85 i
+
+pub bit-written : (n i : ℕ) → 1 ≤ i → i ≤ 85 → bitOf (writeRelative n) i ≡ sent n (86 - i)
+unfolding writeRelative
+bit-written n i = bit-from (λ j. sent n (86 - j)) (λ j. sent-lt n (86 - j)) 85 i
+
+-- the symbol in the place of bit i is the bit added to the symbol in the place before
+pub sent-at : (n i : ℕ) → 1 ≤ i → i ≤ 85 → sent n (86 - i) ≡ (bitOf n i + sent n (85 - i)) % 2
+sent-at n i l u =
+    let e : 86 - i ≡ suc (85 - i) = omega arith in
+    let d : 85 - (85 - i) ≡ i = omega arith in
+    ap (sent n) e ∙ ap (λ (j : ℕ). (bitOf n j + sent n (85 - i)) % 2) d
+
+pub read-below : (x i : ℕ) → i < 85 → readBit x i ≡ (bitOf x i + bitOf x (i + 1)) % 2
+read-below x i h = rw (ne-eqb i 85 (ne-of-lt h))
+
+pub written-lt : (n : ℕ) → writeRelative n < 2 ^ 85
+unfolding writeRelative
+written-lt n = from-lt (λ j. sent n (86 - j)) (λ j. sent-lt n (86 - j)) 85
+
+-- the highest bit is 0
+from-lt-less : (f : ℕ → ℕ) → ((i : ℕ) → f i < 2) → (m : ℕ) → f (suc m) ≡ 0 → fromBits f (suc m) < 2 ^ m
+from-lt-less f h m e = rw e (omega (arith, from-lt f h m))
+
+pub read-lt : (x : ℕ) → readRelative x < 2 ^ 84
+unfolding readRelative
+read-lt x = from-lt-less (readBit x) (read-bit-lt x) 84 refl
+
+-- what the symbols x are read as
+read-as : (x n : ℕ) → n < 2 ^ 84 → ((i : ℕ) → 1 ≤ i → i + 1 ≤ 85 → (bitOf x i + bitOf x (i + 1)) % 2 ≡ bitOf n i) → readRelative x ≡ n
+read-as x n h bits =
+    bits-same 85 (readRelative x) n (omega (arith, read-lt x)) (omega arith)
+    (λ i l u. ⊎-elim
+    (λ (q : i ≡ 85). subst (λ (j : ℕ). bitOf (readRelative x) j ≡ bitOf n j) (sym q)
+    (bit-read x 85 (lit≤ tt) (lit≤ tt) ∙ sym (high-bit n 85 84 h (lit< tt))))
+    (λ (g : i < 85). bit-read x i l u ∙ read-below x i g ∙ bits i l (omega arith))
+    (eq-or-lt-of-le u))
+
+-- ---- over numbers
+-- "Each sent symbol is the data bit added modulo 2 to the symbol before .. Reading: each bit from 84 down is its symbol plus the symbol before
+-- it, modulo 2; bit 85 is read as 0": what is written of a string whose bit 85 is 0 is read back as that string
+pub read-written : (n : ℕ) → n < 2 ^ 84 → readRelative (writeRelative n) ≡ n
+read-written n h =
+    read-as (writeRelative n) n h
+    (λ i l u. let e : 86 - (i + 1) ≡ 85 - i = omega arith in
+    omega (arith, bit-written n i l (omega arith), bit-written n (i + 1) (omega arith) u, ap (sent n) e, sent-at n i l (omega arith), bit-lt n i))
+
+-- every symbol is inverted
+bit-ones : (i : ℕ) → 1 ≤ i → i ≤ 85 → bitOf (2 ^ 85 - 1) i ≡ 1
+bit-ones i l u =
+    let e : 2 ^ 85 - 1 ≡ fromBits (λ j. 1) 85 = refl in
+    ap (λ (x : ℕ). bitOf x i) e ∙ bit-from (λ j. 1) (λ j. lit< tt) 85 i l u
+
+pub bit-inverse : (x i : ℕ) → 1 ≤ i → i ≤ 85 → bitOf (inverse x) i ≡ (bitOf x i + 1) % 2
+unfolding inverse
+bit-inverse x i l u = bit-xor x (2 ^ 85 - 1) i ∙ ap (λ (y : ℕ). (bitOf x i + y) % 2) (bit-ones i l u)
+
+pub inverse-lt : (x : ℕ) → x < 2 ^ 85 → inverse x < 2 ^ 85
+unfolding inverse
+inverse-lt x h = xor-lt 85 x (2 ^ 85 - 1) h (ones-lt 85)
+
+both-turned : (a b : ℕ) → ((a + 1) % 2 + (b + 1) % 2) % 2 ≡ (a + b) % 2
+both-turned a b = omega arith
+
+-- "So a string and the same with all 85 symbols inverted read alike"
+pub inverse-alike : (x : ℕ) → x < 2 ^ 85 → readRelative (inverse x) ≡ readRelative x
+inverse-alike x h =
+    read-as (inverse x) (readRelative x) (read-lt x)
+    (λ i l u. ap₂ (λ (a b : ℕ). (a + b) % 2) (bit-inverse x i l (omega arith)) (bit-inverse x (i + 1) (omega arith) u)
+    ∙ both-turned (bitOf x i) (bitOf x (i + 1)) ∙ sym (read-below x i (omega arith)) ∙ sym (bit-read x i l (omega arith)))
+
+-- what is read of symbols, sent again: each symbol with the first of them added
+next : (a b d r t : ℕ) → r ≡ (a + b) % 2 → t ≡ (b + d) % 2 → (r + t) % 2 ≡ (a + d) % 2
+next a b d r t e f = omega arith
+
+sent-read : (x k : ℕ) → k < 85 → sent (readRelative x) (suc k) ≡ (bitOf x (85 - k) + bitOf x 85) % 2
+sent-read x zero h = omega (arith, bit-read x 85 (lit≤ tt) (lit≤ tt))
+sent-read x (suc k) h =
+    let i = 85 - suc k in
+    let e : i + 1 ≡ 85 - k = omega arith in
+    next (bitOf x i) (bitOf x (85 - k)) (bitOf x 85) (bitOf (readRelative x) i) (sent (readRelative x) (suc k))
+    (bit-read x i (omega arith) (omega arith) ∙ read-below x i (omega arith) ∙ ap (λ (j : ℕ). (bitOf x i + bitOf x j) % 2) e)
+    (sent-read x k (omega arith))
+
+bit-written-read : (x i : ℕ) → 1 ≤ i → i ≤ 85 → bitOf (writeRelative (readRelative x)) i ≡ (bitOf x i + bitOf x 85) % 2
+bit-written-read x i l u =
+    let e : 86 - i ≡ suc (85 - i) = omega arith in
+    let d : 85 - (85 - i) ≡ i = omega arith in
+    bit-written (readRelative x) i l u ∙ ap (sent (readRelative x)) e ∙ sent-read x (85 - i) (omega arith)
+    ∙ ap (λ (j : ℕ). (bitOf x j + bitOf x 85) % 2) d
+
+-- "before bit 85 stands 0": symbols that are read and written again are the same or the same inverted, whichever begin with 0
+pub written-read : (x : ℕ) → x < 2 ^ 85 → (writeRelative (readRelative x) ≡ x) ⊎ (writeRelative (readRelative x) ≡ inverse x)
+written-read x h =
+    let w = writeRelative (readRelative x) in
+    ⊎-elim
+    (λ (e : bitOf x 85 ≡ 1). inr (bits-same 85 w (inverse x) (written-lt (readRelative x)) (inverse-lt x h)
+    (λ i l u. bit-written-read x i l u ∙ ap (λ (b : ℕ). (bitOf x i + b) % 2) e ∙ sym (bit-inverse x i l u))))
+    (λ (g : bitOf x 85 < 1). let z : bitOf x 85 ≡ 0 = omega arith in
+    inl (bits-same 85 w x (written-lt (readRelative x)) h
+    (λ i l u. bit-written-read x i l u ∙ ap (λ (b : ℕ). (bitOf x i + b) % 2) z ∙ omega (arith, bit-lt x i))))
+    (eq-or-lt-of-le (le-of-suc-le-suc (bit-lt x 85)))
+
+-- ---- the answers of the calls, test by test: "Relative code, reading: 12, 2; writing: 12, 2, 4"
+module _ (s out : List ℕ) where
+  pub read-no-room : (length out ≡ 11 → ⊥) → ReadsRelative s out (Refused Room) out
+  unfolding ReadsRelative
+  read-no-room h = refuses 11 (no-room out h)
+
+  pub read-no-shape : length out ≡ 11 → misshapen s ≡ true → ReadsRelative s out (Refused Shape) out
+  unfolding ReadsRelative
+  read-no-shape h e = goes-on 12 (has-room out h) (refuses 1 e)
+
+  pub reads : length out ≡ 11 → misshapen s ≡ false → ReadsRelative s out Done (stringBytes (readRelative (numberOf s)))
+  unfolding ReadsRelative
+  reads h e = goes-on 12 (has-room out h) (goes-on 2 e (takes refl refl))
+
+  pub write-no-room : (length out ≡ 11 → ⊥) → WritesRelative s out (Refused Room) out
+  unfolding WritesRelative
+  write-no-room h = refuses 11 (no-room out h)
+
+  pub write-no-shape : length out ≡ 11 → misshapen s ≡ true → WritesRelative s out (Refused Shape) out
+  unfolding WritesRelative
+  write-no-shape h e = goes-on 12 (has-room out h) (refuses 1 e)
+
+  pub write-idle : length out ≡ 11 → misshapen s ≡ false → isIdle (numberOf s) ≡ true → WritesRelative s out (Refused Idle) out
+  unfolding WritesRelative
+  write-idle h e i = goes-on 12 (has-room out h) (goes-on 2 e (refuses 3 i))
+
+  pub writes : length out ≡ 11 → misshapen s ≡ false → isIdle (numberOf s) ≡ false
+      → WritesRelative s out Done (stringBytes (writeRelative (numberOf s)))
+  unfolding WritesRelative
+  writes h e i = goes-on 12 (has-room out h) (goes-on 2 e (goes-on 4 i (takes refl refl)))
+
+-- ---- no second answer fits, and each number is given exactly where its test is the first to fit
+once : {ts : List Test} {told made out out′ out″ : List ℕ} (r q : Written)
+    → Answers ts told made out (writtenPaper r) out′ → Answers ts told made out (writtenPaper q) out″ → (r ≡ q) × (out′ ≡ out″)
+once r q a b = let e = same-answer a b in (written-same r q (e .0), e .1)
+
+module _ (s out : List ℕ) (r : Written) (out′ : List ℕ) where
+  pub reads-once : (q : Written) (out″ : List ℕ) → ReadsRelative s out r out′ → ReadsRelative s out q out″ → (r ≡ q) × (out′ ≡ out″)
+  unfolding ReadsRelative
+  reads-once q out″ a b = once r q a b
+
+  pub writes-once : (q : Written) (out″ : List ℕ) → WritesRelative s out r out′ → WritesRelative s out q out″ → (r ≡ q) × (out′ ≡ out″)
+  unfolding WritesRelative
+  writes-once q out″ a b = once r q a b
+
+  pub reads-exactly : ReadsRelative s out r out′ → Exactly (readingTests s out) (writtenPaper r)
+  unfolding ReadsRelative
+  reads-exactly a = exactly tt a
+
+  pub writes-exactly : WritesRelative s out r out′ → Exactly (writingTests s out) (writtenPaper r)
+  unfolding WritesRelative
+  writes-exactly a = exactly tt a
+
+-- ---- over the calls: what they make of the bytes of a string
+reads-string : (x : ℕ) (out : List ℕ) → x < 2 ^ 85 → length out ≡ 11 → ReadsRelative (stringBytes x) out Done (stringBytes (readRelative x))
+reads-string x out h n =
+    subst (λ (y : ℕ). ReadsRelative (stringBytes x) out Done (stringBytes (readRelative y))) (string-number x h) (reads (stringBytes x) out n (string-shaped x h))
+
+writes-string : (n : ℕ) (out : List ℕ) → n < 2 ^ 84 → length out ≡ 11 → WritesRelative (stringBytes n) out Done (stringBytes (writeRelative n))
+writes-string n out h l =
+    let g : n < 2 ^ 85 = omega arith in
+    let e = string-number n g in
+    let plain : bitOf (numberOf (stringBytes n)) 85 ≡ 0 = ap (λ (y : ℕ). bitOf y 85) e ∙ high-bit n 85 84 h (lit< tt) in
+    subst (λ (y : ℕ). WritesRelative (stringBytes n) out Done (stringBytes (writeRelative y))) e
+    (writes (stringBytes n) out l (string-shaped n g) (ap (λ (b : ℕ). eqb b 1) plain))
+
+-- a string whose bit 85 is 0, written and then read, is the same string
+pub written-then-read : (n : ℕ) → n < 2 ^ 84 → (out back : List ℕ) → length out ≡ 11 → length back ≡ 11
+    → (r q : Written) (out′ back′ : List ℕ) → WritesRelative (stringBytes n) out r out′ → ReadsRelative out′ back q back′
+    → (r ≡ Done) × ((q ≡ Done) × (back′ ≡ stringBytes n))
+written-then-read n h out back l m r q out′ back′ a b =
+    let w = writeRelative n in
+    let d = writes-once (stringBytes n) out r out′ Done (stringBytes w) a (writes-string n out h l) in
+    let e = reads-once (stringBytes w) back q back′ Done (stringBytes (readRelative w))
+    (subst (λ (s : List ℕ). ReadsRelative s back q back′) (d .1) b) (reads-string w back (written-lt n) m) in
+    (d .0, (e .0, e .1 ∙ ap stringBytes (read-written n h)))
+
+-- a reading goes by the shape and by what is read
+reads-by : (s t out : List ℕ) (r : Written) (out′ : List ℕ) → misshapen s ≡ misshapen t → readRelative (numberOf s) ≡ readRelative (numberOf t)
+    → ReadsRelative s out r out′ → ReadsRelative t out r out′
+unfolding ReadsRelative
+reads-by s t out r out′ e f a = rw (← e, ← f) a
+
+-- a string and its inverse are answered alike, and leave the same bytes
+pub inverse-reads-alike : (x : ℕ) → x < 2 ^ 85 → (out : List ℕ) (r q : Written) (out′ out″ : List ℕ)
+    → ReadsRelative (stringBytes x) out r out′ → ReadsRelative (stringBytes (inverse x)) out q out″ → (r ≡ q) × (out′ ≡ out″)
+inverse-reads-alike x h out r q out′ out″ a b =
+    let y = inverse x in
+    let g = inverse-lt x h in
+    reads-once (stringBytes x) out r out′ q out″ a
+    (reads-by (stringBytes y) (stringBytes x) out q out″ (string-shaped y g ∙ sym (string-shaped x h))
+    (ap readRelative (string-number y g) ∙ inverse-alike x h ∙ ap readRelative (sym (string-number x h))) b)
+
+-- symbols, read and then written, are the same symbols or the same inverted
+pub read-then-written : (x : ℕ) → x < 2 ^ 85 → (out back : List ℕ) → length out ≡ 11 → length back ≡ 11
+    → (r q : Written) (out′ back′ : List ℕ) → ReadsRelative (stringBytes x) out r out′ → WritesRelative out′ back q back′
+    → (r ≡ Done) × ((q ≡ Done) × ((back′ ≡ stringBytes x) ⊎ (back′ ≡ stringBytes (inverse x))))
+read-then-written x h out back l m r q out′ back′ a b =
+    let y = readRelative x in
+    let d = reads-once (stringBytes x) out r out′ Done (stringBytes y) a (reads-string x out h l) in
+    let e = writes-once (stringBytes y) back q back′ Done (stringBytes (writeRelative y))
+    (subst (λ (s : List ℕ). WritesRelative s back q back′) (d .1) b) (writes-string y back (read-lt x) m) in
+    (d .0, (e .0, ⊎-elim (λ p. inl (e .1 ∙ ap stringBytes p)) (λ p. inr (e .1 ∙ ap stringBytes p)) (written-read x h)))

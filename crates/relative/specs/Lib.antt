@@ -1,0 +1,3 @@
+pub mod Relative
+pub mod Calls
+pub mod Known

@@ -1,0 +1,83 @@
+// Reading a string from its symbols, and writing it as its symbols.
+use strings::Refusal;
+use strings::Written;
+use strings::bit;
+use strings::flip_bit;
+use strings::well_shaped;
+ghost use mathlib.Core.Path.{_≡_};
+ghost use mathlib.Core.Bool.{false};
+ghost use lib.ListN.{length};
+ghost use Rattle.strings.specs.Number.{numberOf, misshapen, stringBytes};
+ghost use Rattle.relative.specs.Relative.{readRelative, writeRelative};
+ghost use Rattle.relative.specs.Calls.{ReadsRelative, WritesRelative};
+
+// Reads a string from its symbols, and writes it plain.
+pub fn from_relative(s: &[u8], out: &mut [u8]) -> Written
+    ensures { λ r. ⌜ ReadsRelative (now (s .entry)) (now (out .entry)) r (now (out .exit)) ⌝ }
+{
+    if out.len() != 11 {
+        return Written::Refused(Refusal::Room);
+    }
+    if !well_shaped(s) {
+        return Written::Refused(Refusal::Shape);
+    }
+    read_symbols(s, out);
+    Written::Done
+}
+
+// Writes a plain string as its symbols. Its idle bit must be 0.
+pub fn to_relative(s: &[u8], out: &mut [u8]) -> Written
+    ensures { λ r. ⌜ WritesRelative (now (s .entry)) (now (out .entry)) r (now (out .exit)) ⌝ }
+{
+    if out.len() != 11 {
+        return Written::Refused(Refusal::Room);
+    }
+    if !well_shaped(s) {
+        return Written::Refused(Refusal::Shape);
+    }
+    if bit(s, 85) == 1 {
+        return Written::Refused(Refusal::Idle);
+    }
+    bytes::copy(s, out);
+    send_symbols(out);
+    Written::Done
+}
+
+fn wide(x: u8) -> u16
+    ensures { λ r. ⌜ r ≡ x ⌝ }
+{
+    x as u16
+}
+
+// Each bit is its symbol added to the symbol before, eight at a time: `before` is the byte sent
+// before, of which the last symbol counts. Bit 85 is read as 0 because its own symbol is put before
+// it.
+fn read_symbols(s: &[u8], out: &mut [u8])
+    requires { ⌜ (misshapen (now s) ≡ false) × (length (now out) ≡ 11) ⌝ }
+    ensures { λ _. ⌜ now (out .exit) ≡ stringBytes (readRelative (numberOf (now (s .entry)))) ⌝ }
+{
+    let mut before = s[0] / 128;
+    for k in 0..11 {
+        let here = s[k];
+        let both = wide(before) * 256 + wide(here);
+        out[k] = ((both ^ (both / 2)) % 256) as u8;
+        before = here;
+    }
+    // The last symbol has left its mark on the padding.
+    out[10] = out[10] / 8 * 8;
+}
+
+// From bit 84 down, each bit is inverted where the symbol before it is 1: what stands above the bit
+// is sent already. Before bit 85 stands 0, so bit 85 is its own symbol.
+fn send_symbols(s: &mut [u8])
+    requires { ⌜ misshapen (now s) ≡ false ⌝ }
+    ensures { λ _. ⌜ now (s .exit) ≡ stringBytes (writeRelative (numberOf (now (s .entry)))) ⌝ }
+{
+    let mut i: u8 = 84;
+    while 1 <= i {
+        if bit(s, i + 1) == 1 {
+            flip_bit(s, i);
+        }
+        i -= 1;
+    }
+}

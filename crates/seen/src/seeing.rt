@@ -1,0 +1,117 @@
+// What a line tells of an offer: its number, the bit that the check repaired, and m. A taken offer
+// tells them; a refusal carries its number alone, so the string of a refused one is read and checked
+// again.
+use channel::Answer;
+use strings::Checked;
+use strings::Refusal;
+use strings::Verdict;
+use strings::Written;
+ghost use mathlib.Core.Path.{_≡_};
+ghost use mathlib.Core.Bool.{false};
+ghost use lib.ListN.{getD};
+ghost use Rattle.strings.specs.Number.{numberOf, misshapen};
+ghost use Rattle.channel.specs.Offers.{answerPaper};
+ghost use Rattle.seen.specs.Seen.{bitIn, seen, seenPlain, seenIn, comesBeforeVerdict, seenBy};
+
+pub struct Seen {
+    pub repaired: u8,
+    pub m: u8,
+}
+
+// The number of an answer, 0 where the string is taken.
+pub fn number_told(a: Answer) -> u8
+    ensures { λ r. ⌜ r ≡ getD (answerPaper a) 0 0 ⌝ }
+{
+    match a {
+        Answer::Taken(_, _, _) => 0,
+        Answer::Refused(why) => strings::number_of(why),
+    }
+}
+
+// What the answer to a string lets a line tell.
+pub fn seen_by(a: Answer, s: &[u8]) -> Seen
+    ensures { λ r. ⌜ r ≡ seenBy a (now (s .entry)) ⌝ }
+{
+    match a {
+        Answer::Taken(m, v, _) => Seen {
+            repaired: bit_in(v),
+            m,
+        },
+        Answer::Refused(why) => seen_after(why, s),
+    }
+}
+
+// NUMBER needs no word of its own: its m is 0.
+fn seen_after(why: Refusal, s: &[u8]) -> Seen
+    ensures { λ r. ⌜ r ≡ seenBy (Answer.Refused why) (now (s .entry)) ⌝ }
+{
+    if comes_before_verdict(why) {
+        return nothing();
+    }
+    see(s)
+}
+
+// Whether a refusal comes before the check has a verdict: 1 to 4.
+fn comes_before_verdict(why: Refusal) -> bool
+    ensures { λ r. ⌜ r ≡ comesBeforeVerdict why ⌝ }
+{
+    match why {
+        Refusal::Channel => true,
+        Refusal::Shape => true,
+        Refusal::Damaged => true,
+        Refusal::Idle => true,
+        Refusal::Number => false,
+        Refusal::Early => false,
+        Refusal::Stale => false,
+        Refusal::OffBeat => false,
+        Refusal::Conflict => false,
+        Refusal::Range(_) => false,
+        Refusal::Place => false,
+        Refusal::Room => false,
+        Refusal::Nothing => false,
+        Refusal::Slot => false,
+    }
+}
+
+// What reading and checking a string shows.
+fn see(s: &[u8]) -> Seen
+    ensures { λ r. ⌜ r ≡ seenIn (now (s .entry)) ⌝ }
+{
+    let mut plain = [0u8; 11];
+    let read = relative::from_relative(s, &mut plain);
+    match read {
+        Written::Refused(_) => nothing(),
+        Written::Done => see_plain(plain),
+    }
+}
+
+fn see_plain(s: [u8; 11]) -> Seen
+    requires { ⌜ misshapen s ≡ false ⌝ }
+    ensures { λ r. ⌜ r ≡ seenPlain (numberOf s) ⌝ }
+{
+    let mut whole = [0u8; 11];
+    let checked = strings::check(&s, &mut whole);
+    match checked {
+        Checked::Refused(_) => nothing(),
+        Checked::Taken(v) => Seen {
+            repaired: bit_in(v),
+            m: words::number_in(&whole),
+        },
+    }
+}
+
+fn nothing() -> Seen
+    ensures { λ r. ⌜ r ≡ seen 0 0 ⌝ }
+{
+    Seen { repaired: 0, m: 0 }
+}
+
+// The bit that a verdict names, 0 where it names none.
+fn bit_in(v: Verdict) -> u8
+    ensures { λ r. ⌜ r ≡ bitIn v ⌝ }
+{
+    match v {
+        Verdict::Clean => 0,
+        Verdict::Repaired(i) => i,
+    }
+}
