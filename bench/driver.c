@@ -18,7 +18,10 @@ static u8 sent[STRINGS][11], plain[STRINGS][11], wrong1[STRINGS][11], wrong2[STR
 static u8 number[STRINGS], kind[STRINGS], records[STRINGS * CHANNELS * RECORD];
 static int words[STRINGS][8], read[8], of_kind[KINDS + 1][STRINGS], many[KINDS + 1], now;
 /* a station lent to the library: 24 rows of 228 bytes and 24 entries of 24; all zero is fresh */
-static struct { u8 rows[24][228], book[24][24]; } __attribute__((aligned(8))) station;
+#ifndef ROW
+#define ROW 228
+#endif
+static struct { u8 rows[24][ROW], book[24][24]; } __attribute__((aligned(8))) station;
 
 static void turn(u8 *s, int bit) { s[(85 - bit) / 8] ^= 1 << ((bit + 2) % 8); }
 static void relative(int i) { rig_sink = measured_relative(sent[i], 11, out, 11); }

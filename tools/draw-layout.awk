@@ -32,16 +32,16 @@ function start(name) {
     box(8, 1, "check", "check bits")
 }
 
-/^const WORDS/ { inside = 1; next }
-/^\];/ { inside = 0 }
-inside && /^ *\/\/ / { sub(/^ *\/\/ /, ""); start($0); next }
-inside && /^ *[0-9]_[0-9][0-9]_[0-9][0-9],/ {
-    split($1, part, "_")
-    hi = part[2] + 0; lo = part[3] + 0
-    if (hi < lo) next
-    label = $0
-    sub(/^[^\/]*\/\/ /, "", label)
-    box(hi, lo, part[1] == 1 ? "signed" : "word", part[1] == 1 ? label " s" : label)
+# a kind's words are the arms of one function, and the comment above it is the kind's name: `0 => plain(78, 77), // P1`
+/^\/\/ / { title = tolower(substr($0, 4, 1)) substr($0, 5); sub(/\.$/, "", title) }
+/^fn [a-z0-9_]+\(j: usize\) -> Word/ { start(title) }
+/^ *[0-9] => .*[0-9]+, [0-9]+\), \/\/ / {
+    label = bits = $0
+    sub(/^.*\/\/ /, "", label)
+    match(bits, /[0-9]+, [0-9]+\)/)
+    split(substr(bits, RSTART, RLENGTH), part, ", ")
+    signed = index($0, "signed(")
+    box(part[1] + 0, part[2] + 0, signed ? "signed" : "word", signed ? label " s" : label)
 }
 
 END {

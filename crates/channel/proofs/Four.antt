@@ -1,48 +1,20 @@
--- A row's first four strings, and what their words say: which of them the mask has, whether the four are in range, the news that they make.
+-- A row's first four strings: which of them the mask has, and the news that they make.
 -- Assumes nothing.
 use mathlib.Core.Path.{_≡_, refl, sym, ap, _∙_}
 use mathlib.Core.Bool.{Bool, true, false, _&&_}
+use mathlib.Core.List.{List}
 use Prim.Native.Nat.{ℕ, _+_, _*_, _/_, _%_}
 use native.Mathlib.Omega.{arith}
 use borrow.Author.Tests.{eq-eqb, ne-eqb, eqb-true, eqb-false}
 use lib.Dec.{eqb, leb}
 use lib.Pow.{mod-pow-add}
 use Rattle.strings.specs.Pick.{pick}
-use Rattle.records.specs.declared.kinds.Kind.the-variants.{One, Two, Three, Four}
 use Rattle.words.specs.Immediate.{stringAt}
-use Rattle.words.proofs.Ranges.{reading-fails}
-use Rattle.book.specs.Shows.{isGood}
-use Rattle.channel.specs.declared.Immediate.{Immediate}
 use Rattle.channel.specs.declared.News.the-variants.{Kept, RecordBuilt, RecordOutOfRange}
-use Rattle.channel.specs.declared.Row.{Row}
-use Rattle.channel.specs.Frame.{fourGood, newsAt}
-use Rattle.channel.specs.Row.{isPresent, frameOf, hasRecord}
+use Rattle.immediate.specs.Kept.{fourGood, areGood}
+use Rattle.channel.specs.Frame.{newsAt}
+use Rattle.channel.specs.Row.{isPresent, framed}
 
--- ---- four strings in range
--- a string 3 has no word that can be out of range
-good-three : (n : ℕ) → isGood Three n ≡ true
-unfolding isGood
-good-three n = ap (λ (x : ℕ). eqb x 0) (reading-fails n Three)
-
--- nor has a string 4
-good-four : (n : ℕ) → isGood Four n ≡ true
-unfolding isGood
-good-four n = ap (λ (x : ℕ). eqb x 0) (reading-fails n Four)
-
--- so four strings are in range where the first two are
-pub four-good : (one two three four : ℕ) → fourGood one two three four ≡ (isGood One one && isGood Two two)
-four-good one two three four = rw (good-three three, good-four four) (ap (λ (t : Bool). isGood One one && t) (and-true (isGood Two two)))
-  where
-    and-true : (t : Bool) → (t && true) ≡ t
-    and-true true = refl
-    and-true false = refl
-
--- there is a record where its first two strings are in range
-pub has-record-is : (i : Immediate) → hasRecord i ≡ (isGood One (stringAt (i .strings) 0) && isGood Two (stringAt (i .strings) 1))
-unfolding hasRecord
-has-record-is i = four-good (stringAt (i .strings) 0) (stringAt (i .strings) 1) (stringAt (i .strings) 2) (stringAt (i .strings) 3)
-
--- ---- the news
 -- the four low bits of a mask, one by one
 low-four : (mask : ℕ) → mask % 16 ≡ mask / 8 % 2 * 8 + (mask / 4 % 2 * 4 + (mask / 2 % 2 * 2 + mask % 2))
 low-four mask =
@@ -67,20 +39,17 @@ four-present mask = by (eqb (mask / 1 % 2) 1) (eqb (mask / 2 % 2) 1) (eqb (mask 
     by true false c d p q r s = sym (ne-eqb (mask % 16) 15 (λ e. eqb-false (mask / 2 % 2) 1 q (omega (arith, low-four mask))))
     by false b c d p q r s = sym (ne-eqb (mask % 16) 15 (λ e. eqb-false (mask / 1 % 2) 1 p (omega (arith, low-four mask))))
 
--- the news of string m in a row's frame, said of the row's mask and bytes
-pub news-is : (row : Row) (m : ℕ) → newsAt (frameOf row) m
-    ≡ pick (leb m 4 && eqb (row .present % 16) 15)
-    (pick (isGood One (stringAt (row .strings) 0) && isGood Two (stringAt (row .strings) 1)) RecordBuilt RecordOutOfRange) Kept
-news-is row m =
-    let p = row .present in
-    let s = row .strings in
+-- the news of string m in a frame, said of its mask and bytes; its start says nothing
+pub news-is : (start p : ℕ) (s : List ℕ) (m : ℕ) → newsAt (framed start p s) m
+    ≡ pick (leb m 4 && eqb (p % 16) 15) (pick (areGood s) RecordBuilt RecordOutOfRange) Kept
+news-is start p s m =
     by (leb m 4) (isPresent p 1) (isPresent p 2) (isPresent p 3) (isPresent p 4) (stringAt s 0) (stringAt s 1) (stringAt s 2) (stringAt s 3)
-    ∙ ap (λ (t : Bool). pick (leb m 4 && t) (pick (isGood One (stringAt s 0) && isGood Two (stringAt s 1)) RecordBuilt RecordOutOfRange) Kept) (four-present p)
+    ∙ ap (λ (t : Bool). pick (leb m 4 && t) (pick (areGood s) RecordBuilt RecordOutOfRange) Kept) (four-present p)
   where
     by : (l a b c d : Bool) (w x y z : ℕ)
         → pick (l && (a && (b && (c && d)))) (pick (fourGood (pick a w 0) (pick b x 0) (pick c y 0) (pick d z 0)) RecordBuilt RecordOutOfRange) Kept
-        ≡ pick (l && (a && (b && (c && d)))) (pick (isGood One w && isGood Two x) RecordBuilt RecordOutOfRange) Kept
-    by true true true true true w x y z = ap (λ (t : Bool). pick t RecordBuilt RecordOutOfRange) (four-good w x y z)
+        ≡ pick (l && (a && (b && (c && d)))) (pick (fourGood w x y z) RecordBuilt RecordOutOfRange) Kept
+    by true true true true true w x y z = refl
     by true true true true false w x y z = refl
     by true true true false d w x y z = refl
     by true true false c d w x y z = refl

@@ -16,28 +16,22 @@ use Rattle.strings.specs.Number.{numberOf, misshapen, stringBytes}
 use Rattle.strings.specs.Hamming.{ruling, isDamaged}
 use Rattle.strings.specs.Numbers.{Test, test, firstOf, placeOf, saidBy, answerOf}
 use Rattle.strings.specs.Calls.{isIdle}
-use Rattle.strings.specs.declared.Verdict.{Verdict}
 use Rattle.strings.proofs.Answer.{refusal-known}
-use Rattle.strings.proofs.Judge.{mended-lt}
-use Rattle.relative.proofs.RelativeCode.{read-lt}
 use Rattle.words.specs.Calls.{numberIn}
-use Rattle.channel.specs.declared.News.{News}
-use Rattle.channel.specs.declared.News.the-variants.{AlreadyHeld, Kept, RecordBuilt, RecordOutOfRange}
 use Rattle.channel.specs.declared.Row.{Row}
 use Rattle.channel.specs.declared.Offered.{Offered}
 use Rattle.channel.specs.declared.Answer.{Answer}
 use Rattle.channel.specs.declared.Answer.the-variants.{Taken as TAKEN, Refused as REFUSED}
 use Rattle.tallies.specs.Tallies.Outcome.{Refused, Taken}
-use Rattle.channel.specs.Frame.{Frame, withString, startOf, isOfFrame, isHere, frameFor, afterString, newsOf}
-use Rattle.channel.specs.Row.{frameOf, emptyRow, newFrame, rowFor, stored, recorded, counted}
-use Rattle.channel.specs.Offers.{answerPaper, isTaken, OnlyCounted, takenRow, verdictOf, plainOf, wholeOf, offerTests, Offers, offeredRow}
+use Rattle.channel.specs.Frame.{Frame, withString, startOf, isOfFrame, isHere, frameFor, afterString}
+use Rattle.channel.specs.Row.{Held, frameIn, heldOf, frameOf, emptyRow, newFrame, heldFor, stored, heldWith, counted}
+use Rattle.hearing.specs.Hears.{plainOf, wholeOf, verdictIn}
+use Rattle.channel.specs.Offers.{answerPaper, isTaken, OnlyCounted, takenRow, offerTests, Offers, offeredRow}
 use Rattle.channel.specs.History.{Call, frameAfter, heldAfter, saidTo, Runs, fresh, offering, resetting}
-use Rattle.channel.proofs.Frames.{stored-frame, empty-frame, row-for, counted-frame, recorded-frame}
+use Rattle.channel.proofs.Frames.{stored-frame, empty-frame, held-for}
+use Rattle.hearing.proofs.Hearing.{whole-lt}
 
 -- ---- the string of an offer
-pub whole-lt : (s : List ℕ) → wholeOf s < 2 ^ 85
-whole-lt s = mended-lt (plainOf s) (omega (arith, read-lt (numberOf s)))
-
 -- where none of the tests fits, the fourth does not
 past-number : (a b c d : Bool) (ts : List Test) → firstOf (test 2 a ∷ test 3 b ∷ test 4 c ∷ test 5 d ∷ ts) ≡ 0 → d ≡ false
 past-number true b c d ts e = let z : _≡_ {A = ℕ} 2 0 = e in absurd (omega arith)
@@ -55,47 +49,35 @@ taken-numbered f epoch s e =
     in
     lt-of-le-ne (omega arith) (λ q. z (sym q))
 
--- ---- the row that a taken string leaves
-recorded-strings : (w : News) (row : Row) → recorded w row .strings ≡ row .strings
-unfolding recorded
-recorded-strings AlreadyHeld row = refl
-recorded-strings Kept row = refl
-recorded-strings RecordBuilt row = refl
-recorded-strings RecordOutOfRange row = refl
-
+-- ---- what a taken string leaves
 -- fifteen strings stay fifteen
-pub for-long : (row : Row) (start : ℕ) → length (row .strings) ≡ 165 → length (rowFor row start .strings) ≡ 165
+pub for-long : (h : Held) (start : ℕ) → length (h .bytes) ≡ 165 → length (heldFor h start .bytes) ≡ 165
 unfolding newFrame
-for-long row start long = by (isOfFrame (frameOf row) start)
+for-long h start long = by (isOfFrame (frameIn h) start)
   where
-    by : (t : Bool) → length (pick t row (newFrame row start) .strings) ≡ 165
+    by : (t : Bool) → length (pick t h (newFrame start) .bytes) ≡ 165
     by true = long
     by false = length-replicate {A = ℕ} 165 0
 
-module _ (row : Row) (epoch n : ℕ) (v : Verdict) (long : length (row .strings) ≡ 165) where
-  taken-long : length (takenRow row epoch n v .strings) ≡ 165
-  unfolding takenRow counted stored
-  taken-long =
-      ap length (recorded-strings (newsOf (frameOf row) epoch n) (pick (isHere (frameOf row) epoch n) row (stored (rowFor row (startOf epoch n)) n)))
-      ∙ by (isHere (frameOf row) epoch n)
+module _ (h : Held) (epoch n : ℕ) (long : length (h .bytes) ≡ 165) where
+  placed-long : length (heldWith h epoch n .bytes) ≡ 165
+  unfolding heldWith stored
+  placed-long = by (isHere (frameIn h) epoch n)
     where
-      by : (t : Bool) → length (pick t row (stored (rowFor row (startOf epoch n)) n) .strings) ≡ 165
+      by : (t : Bool) → length (pick t h (stored (heldFor h (startOf epoch n)) n) .bytes) ≡ 165
       by true = long
-      by false = length-sets (rowFor row (startOf epoch n) .strings) _ (stringBytes n) ∙ for-long row (startOf epoch n) long
+      by false = length-sets (heldFor h (startOf epoch n) .bytes) _ (stringBytes n) ∙ for-long h (startOf epoch n) long
 
-  -- its frame is the frame with the string
-  taken-frame : n < 2 ^ 85 → 1 ≤ numberIn n → frameOf (takenRow row epoch n v) ≡ afterString (frameOf row) epoch n
-  unfolding takenRow
-  taken-frame small least =
-      let next = pick (isHere (frameOf row) epoch n) row (stored (rowFor row (startOf epoch n)) n) in
-      let w = newsOf (frameOf row) epoch n in
-      counted-frame (Taken v) (recorded w next) ∙ recorded-frame w next ∙ by (isHere (frameOf row) epoch n)
+  -- the frame with the string is held
+  placed-frame : n < 2 ^ 85 → 1 ≤ numberIn n → frameIn (heldWith h epoch n) ≡ afterString (frameIn h) epoch n
+  unfolding heldWith
+  placed-frame small least = by (isHere (frameIn h) epoch n)
     where
-      by : (t : Bool) → frameOf (pick t row (stored (rowFor row (startOf epoch n)) n))
-          ≡ pick t (frameOf row) (withString (frameFor (frameOf row) (startOf epoch n)) n)
+      by : (t : Bool) → frameIn (pick t h (stored (heldFor h (startOf epoch n)) n))
+          ≡ pick t (frameIn h) (withString (frameFor (frameIn h) (startOf epoch n)) n)
       by true = refl
       by false =
-          stored-frame (rowFor row (startOf epoch n)) n (for-long row (startOf epoch n) long) small least ∙ ap (λ (f : Frame). withString f n) (row-for row (startOf epoch n))
+          stored-frame (heldFor h (startOf epoch n)) n (for-long h (startOf epoch n) long) small least ∙ ap (λ (f : Frame). withString f n) (held-for h (startOf epoch n))
 
 -- ---- the row that an offer leaves
 pub offered-is : (row : Row) (epoch : ℕ) (s : List ℕ) (r : Offered) → Offers row epoch s r → r .row ≡ offeredRow row epoch s
@@ -108,24 +90,24 @@ said-by row epoch s r o = o .answer
 
 module _ (row : Row) (epoch : ℕ) (s : List ℕ) (long : length (row .strings) ≡ 165) where
   pub offered-long : length (offeredRow row epoch s .strings) ≡ 165
-  unfolding counted
+  unfolding counted takenRow
   offered-long = by (eqb (firstOf (offerTests (frameOf row) epoch s)) 0)
     where
-      by : (t : Bool) → length (pick t (takenRow row epoch (wholeOf s) (verdictOf (ruling (plainOf s)))) (counted Refused row) .strings) ≡ 165
-      by true = taken-long row epoch (wholeOf s) (verdictOf (ruling (plainOf s))) long
+      by : (t : Bool) → length (pick t (takenRow row epoch (wholeOf s)) row .strings) ≡ 165
+      by true = placed-long (heldOf row) epoch (wholeOf s) long
       by false = long
 
   -- THE ROW'S FRAME MOVES AS THE RULES SAY, from any row
   pub frame-after : frameOf (offeredRow row epoch s) ≡ frameAfter (frameOf row) epoch s
+  unfolding counted takenRow
   frame-after = by (eqb (firstOf (offerTests (frameOf row) epoch s)) 0) refl
     where
       by : (t : Bool) → eqb (firstOf (offerTests (frameOf row) epoch s)) 0 ≡ t
-          → frameOf (pick t (takenRow row epoch (wholeOf s) (verdictOf (ruling (plainOf s)))) (counted Refused row))
-          ≡ pick t (afterString (frameOf row) epoch (wholeOf s)) (frameOf row)
+          → frameOf (pick t (takenRow row epoch (wholeOf s)) row) ≡ pick t (afterString (frameOf row) epoch (wholeOf s)) (frameOf row)
       by true e =
-          taken-frame row epoch (wholeOf s) (verdictOf (ruling (plainOf s))) long (whole-lt s)
+          placed-frame (heldOf row) epoch (wholeOf s) long (whole-lt s)
           (taken-numbered (frameOf row) epoch s (eqb-true (firstOf (offerTests (frameOf row) epoch s)) 0 e))
-      by false e = counted-frame Refused row
+      by false e = refl
 
 -- ---- a refused offer
 -- an answer begins with the number of the first test that fits
@@ -154,7 +136,7 @@ unfolding counted
 refused-only row epoch s r o n =
     let e : r .row ≡ counted Refused row =
     offered-is row epoch s r o
-    ∙ ap (λ (t : Bool). pick t (takenRow row epoch (wholeOf s) (verdictOf (ruling (plainOf s)))) (counted Refused row)) (sym (taken-exactly row epoch s r o) ∙ n)
+    ∙ ap (λ (t : Bool). counted (pick t (Taken (verdictIn s)) Refused) (pick t (takenRow row epoch (wholeOf s)) row)) (sym (taken-exactly row epoch s r o) ∙ n)
     in
     subst (OnlyCounted row) (sym e) (record {
       strings = refl;

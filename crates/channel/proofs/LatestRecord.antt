@@ -13,7 +13,6 @@ use lib.ListN.{length, take, drop}
 use lib.Seq.{take-add, drop-at, take-take, length-take-le, length-sets}
 use Rattle.strings.specs.Pick.{pick}
 use Rattle.strings.specs.Number.{numberOf, wordOf, stringBytes}
-use Rattle.strings.specs.Hamming.{ruling}
 use Rattle.strings.specs.Numbers.{firstOf}
 use Rattle.words.specs.Calls.{numberIn}
 use Rattle.words.specs.Layout.{layout}
@@ -23,14 +22,16 @@ use Rattle.book.specs.Shows.{isGood}
 use Rattle.book.proofs.Good.{both}
 use Rattle.channel.specs.declared.News.the-variants.{AlreadyHeld, Kept, RecordBuilt, RecordOutOfRange}
 use Rattle.channel.specs.declared.Row.{Row}
-use Rattle.channel.specs.declared.Immediate.{Immediate}
-use Rattle.tallies.specs.Tallies.Outcome.{Refused}
-use Rattle.channel.specs.Frame.{Frame, emptyFrame, withString, startOf, isOfFrame, isHere, frameFor, fourGood, isComplete, isReadable, newsAt}
-use Rattle.channel.specs.Row.{isPresent, frameOf, keptFour, hasRecord, recordOf, emptyRow, newFrame, rowFor, stored, recorded, counted}
-use Rattle.channel.specs.Offers.{takenRow, verdictOf, plainOf, wholeOf, offerTests, offeredRow}
+use Rattle.immediate.specs.declared.Immediate.{Immediate}
+use Rattle.immediate.specs.Kept.{fourGood, keptFour, hasRecord, recordOf, recordBy}
+use Rattle.channel.specs.Frame.{Frame, emptyFrame, withString, startOf, isOfFrame, isHere, frameFor, isComplete, isReadable, newsAt}
+use Rattle.channel.specs.Row.{isPresent, Held, frameIn, heldOf, frameOf, emptyRow, heldFor, stored, heldWith, isBuilt, counted}
+use Rattle.hearing.specs.Hears.{wholeOf}
+use Rattle.channel.specs.Offers.{takenRow, offerTests, offeredRow}
 use Rattle.channel.specs.History.{Call, Offer, Reset, heldAfter, makesRecord, fourOf, recordAfter, LeftSince, now, before, SomeMoment, Runs, fresh, offering, resetting}
-use Rattle.channel.proofs.Frames.{stored-frame, row-for}
-use Rattle.channel.proofs.HeldFrame.{whole-lt, taken-numbered, for-long, offered-is, runs-long, held-is, frame-after}
+use Rattle.channel.proofs.Frames.{stored-frame, held-for}
+use Rattle.hearing.proofs.Hearing.{whole-lt}
+use Rattle.channel.proofs.HeldFrame.{taken-numbered, for-long, offered-is, runs-long, held-is, frame-after}
 
 -- ---- four strings kept
 -- the first four strings are those of the first 44 bytes
@@ -43,37 +44,37 @@ string-of-four l j long h =
     (ap (λ (i : ℕ). take 11 (drop k (take i l))) (sym e) ∙ ap (λ (x : List ℕ). take 11 (drop k x)) (take-add k (44 - k) l)
     ∙ ap (take 11) (drop-at (take k l) (take (44 - k) (drop k l)) k t) ∙ take-take 11 (44 - k) (drop k l) (omega arith))
 
--- the texts of four strings that are present are the row's strings
-module _ (row : Row) (long : length (row .strings) ≡ 165) (c : isComplete (frameOf row) ≡ true) where
-  has-one : isPresent (row .present) 1 ≡ true
-  has-one = both (isPresent (row .present) 1) _ c .0
+-- the texts of four strings that are present are the strings held
+module _ (h : Held) (long : length (h .bytes) ≡ 165) (c : isComplete (frameIn h) ≡ true) where
+  has-one : isPresent (h .mask) 1 ≡ true
+  has-one = both (isPresent (h .mask) 1) _ c .0
 
-  has-two : isPresent (row .present) 2 ≡ true
-  has-two = both (isPresent (row .present) 2) _ (both (isPresent (row .present) 1) _ c .1) .0
+  has-two : isPresent (h .mask) 2 ≡ true
+  has-two = both (isPresent (h .mask) 2) _ (both (isPresent (h .mask) 1) _ c .1) .0
 
-  has-rest : (isPresent (row .present) 3 && isPresent (row .present) 4) ≡ true
-  has-rest = both (isPresent (row .present) 2) _ (both (isPresent (row .present) 1) _ c .1) .1
+  has-rest : (isPresent (h .mask) 3 && isPresent (h .mask) 4) ≡ true
+  has-rest = both (isPresent (h .mask) 2) _ (both (isPresent (h .mask) 1) _ c .1) .1
 
-  text-is : (j : ℕ) → j < 4 → isPresent (row .present) (j + 1) ≡ true → stringAt (take 44 (row .strings)) j ≡ frameOf row .text (j + 1)
-  text-is j h p =
+  text-is : (j : ℕ) → j < 4 → isPresent (h .mask) (j + 1) ≡ true → stringAt (take 44 (h .bytes)) j ≡ frameIn h .text (j + 1)
+  text-is j l p =
       let e : j + 1 - 1 ≡ j = omega arith in
-      string-of-four (row .strings) j long h ∙ rw p (ap (stringAt (row .strings)) (sym e))
+      string-of-four (h .bytes) j long l ∙ rw p (ap (stringAt (h .bytes)) (sym e))
 
   -- a record built is the frame's four strings, and is held where they are in range
-  built-four : keptFour (record { strings = take 44 (row .strings) }) ≡ fourOf (frameOf row)
+  built-four : keptFour (record { strings = take 44 (h .bytes) }) ≡ fourOf (frameIn h)
   built-four =
-      let three = both (isPresent (row .present) 3) (isPresent (row .present) 4) has-rest in
-      ap₂ (λ (x y : ℕ). x ∷ y ∷ stringAt (take 44 (row .strings)) 2 ∷ stringAt (take 44 (row .strings)) 3 ∷ []) (text-is 0 (lit< tt) has-one) (text-is 1 (lit< tt) has-two)
-      ∙ ap₂ (λ (x y : ℕ). frameOf row .text 1 ∷ frameOf row .text 2 ∷ x ∷ y ∷ []) (text-is 2 (lit< tt) (three .0)) (text-is 3 (lit< tt) (three .1))
+      let three = both (isPresent (h .mask) 3) (isPresent (h .mask) 4) has-rest in
+      ap₂ (λ (x y : ℕ). x ∷ y ∷ stringAt (take 44 (h .bytes)) 2 ∷ stringAt (take 44 (h .bytes)) 3 ∷ []) (text-is 0 (lit< tt) has-one) (text-is 1 (lit< tt) has-two)
+      ∙ ap₂ (λ (x y : ℕ). frameIn h .text 1 ∷ frameIn h .text 2 ∷ x ∷ y ∷ []) (text-is 2 (lit< tt) (three .0)) (text-is 3 (lit< tt) (three .1))
 
-  built-held : hasRecord (record { strings = take 44 (row .strings) }) ≡ isReadable (frameOf row)
+  built-held : hasRecord (record { strings = take 44 (h .bytes) }) ≡ isReadable (frameIn h)
   unfolding hasRecord
   built-held =
-      let three = both (isPresent (row .present) 3) (isPresent (row .present) 4) has-rest in
-      ap₂ (λ (x y : ℕ). fourGood x y (stringAt (take 44 (row .strings)) 2) (stringAt (take 44 (row .strings)) 3)) (text-is 0 (lit< tt) has-one) (text-is 1 (lit< tt) has-two)
-      ∙ ap₂ (λ (x y : ℕ). fourGood (frameOf row .text 1) (frameOf row .text 2) x y) (text-is 2 (lit< tt) (three .0)) (text-is 3 (lit< tt) (three .1))
+      let three = both (isPresent (h .mask) 3) (isPresent (h .mask) 4) has-rest in
+      ap₂ (λ (x y : ℕ). fourGood x y (stringAt (take 44 (h .bytes)) 2) (stringAt (take 44 (h .bytes)) 3)) (text-is 0 (lit< tt) has-one) (text-is 1 (lit< tt) has-two)
+      ∙ ap₂ (λ (x y : ℕ). fourGood (frameIn h .text 1) (frameIn h .text 2) x y) (text-is 2 (lit< tt) (three .0)) (text-is 3 (lit< tt) (three .1))
 
-  pub built : isReadable (frameOf row) ≡ true → recordOf (record { strings = take 44 (row .strings) }) ≡ fourOf (frameOf row)
+  pub built : isReadable (frameIn h) ≡ true → recordOf (record { strings = take 44 (h .bytes) }) ≡ fourOf (frameIn h)
   unfolding recordOf
   built r = rw (built-held ∙ r) built-four
 
@@ -113,25 +114,18 @@ module _ (row : Row) (epoch n : ℕ) (long : length (row .strings) ≡ 165) (sma
   abbrev whole : Frame
   whole = withString joined n
 
-  -- the row with it
-  abbrev next : Row
-  next = stored (rowFor row (startOf epoch n)) n
+  -- what is held with it
+  abbrev next : Held
+  next = stored (heldFor (heldOf row) (startOf epoch n)) n
 
-  next-frame : frameOf next ≡ whole
+  next-frame : frameIn next ≡ whole
   next-frame =
-      stored-frame (rowFor row (startOf epoch n)) n (for-long row (startOf epoch n) long) small least ∙ ap (λ (f : Frame). withString f n) (row-for row (startOf epoch n))
+      stored-frame (heldFor (heldOf row) (startOf epoch n)) n (for-long (heldOf row) (startOf epoch n) long) small least
+      ∙ ap (λ (f : Frame). withString f n) (held-for (heldOf row) (startOf epoch n))
 
-  next-long : length (next .strings) ≡ 165
+  next-long : length (next .bytes) ≡ 165
   unfolding stored
-  next-long = length-sets (rowFor row (startOf epoch n) .strings) (11 * (numberIn n - 1)) (stringBytes n) ∙ for-long row (startOf epoch n) long
-
-  next-immediate : next .immediate ≡ row .immediate
-  unfolding stored newFrame
-  next-immediate = by (isOfFrame (frameOf row) (startOf epoch n))
-    where
-      by : (t : Bool) → pick t row (newFrame row (startOf epoch n)) .immediate ≡ row .immediate
-      by true = refl
-      by false = refl
+  next-long = length-sets (heldFor (heldOf row) (startOf epoch n) .bytes) (11 * (numberIn n - 1)) (stringBytes n) ∙ for-long (heldOf row) (startOf epoch n) long
 
   -- where it is above 4 and the frame makes a record, it did so before
   before-it : leb (numberIn n) 4 ≡ false → makesRecord whole ≡ true → recordOf (row .immediate) ≡ fourOf whole
@@ -142,33 +136,35 @@ module _ (row : Row) (epoch n : ℕ) (long : length (row .strings) ≡ 165) (sma
       by true e = u e
       by false e = absurd (false≢true e)
 
-  new-record : recordOf (recorded (newsAt whole (numberIn n)) next .immediate) ≡ nextRecord row whole
-  unfolding recorded
+  new-record : recordOf (recordBy (isBuilt (newsAt whole (numberIn n))) (next .bytes) (row .immediate)) ≡ nextRecord row whole
   new-record = by (leb (numberIn n) 4) (isComplete whole) (isReadable whole) refl refl refl
     where
       by : (l c r : Bool) → leb (numberIn n) 4 ≡ l → isComplete whole ≡ c → isReadable whole ≡ r
-          → recordOf (recorded (pick (l && c) (pick r RecordBuilt RecordOutOfRange) Kept) next .immediate)
+          → recordOf (recordBy (isBuilt (pick (l && c) (pick r RecordBuilt RecordOutOfRange) Kept)) (next .bytes) (row .immediate))
           ≡ pick (c && r) (fourOf whole) (recordOf (row .immediate))
       by true true true a b c =
           built next next-long (ap isComplete next-frame ∙ b) (ap isReadable next-frame ∙ c) ∙ ap fourOf next-frame
-      by true true false a b c = ap recordOf next-immediate
-      by true false r a b c = ap recordOf next-immediate
-      by false true true a b c = ap recordOf next-immediate ∙ before-it a (ap₂ _&&_ b c)
-      by false true false a b c = ap recordOf next-immediate
-      by false false r a b c = ap recordOf next-immediate
+      by true true false a b c = refl
+      by true false r a b c = refl
+      by false true true a b c = before-it a (ap₂ _&&_ b c)
+      by false true false a b c = refl
+      by false false r a b c = refl
 
 -- any offer
 module _ (row : Row) (epoch : ℕ) (s : List ℕ) (long : length (row .strings) ≡ 165) (u : UpToDate row) where
+  -- the frame with the string
+  abbrev more : Frame
+  more = withString (frameFor (frameOf row) (startOf epoch (wholeOf s))) (wholeOf s)
+
   taken-record : 1 ≤ numberIn (wholeOf s)
-      → recordOf (takenRow row epoch (wholeOf s) (verdictOf (ruling (plainOf s))) .immediate)
-      ≡ nextRecord row (pick (isHere (frameOf row) epoch (wholeOf s)) (frameOf row) (withString (frameFor (frameOf row) (startOf epoch (wholeOf s))) (wholeOf s)))
-  unfolding takenRow counted recorded
+      → recordOf (takenRow row epoch (wholeOf s) .immediate) ≡ nextRecord row (pick (isHere (frameOf row) epoch (wholeOf s)) (frameOf row) more)
+  unfolding takenRow heldWith
   taken-record least = by (isHere (frameOf row) epoch (wholeOf s))
     where
       by : (t : Bool)
-          → recordOf (recorded (pick t AlreadyHeld (newsAt (withString (frameFor (frameOf row) (startOf epoch (wholeOf s))) (wholeOf s)) (numberIn (wholeOf s))))
-          (pick t row (stored (rowFor row (startOf epoch (wholeOf s))) (wholeOf s))) .immediate)
-          ≡ nextRecord row (pick t (frameOf row) (withString (frameFor (frameOf row) (startOf epoch (wholeOf s))) (wholeOf s)))
+          → recordOf (recordBy (isBuilt (pick t AlreadyHeld (newsAt more (numberIn (wholeOf s)))))
+          (pick t (heldOf row) (stored (heldFor (heldOf row) (startOf epoch (wholeOf s))) (wholeOf s)) .bytes) (row .immediate))
+          ≡ nextRecord row (pick t (frameOf row) more)
       by true = same-record row u
       by false = new-record row epoch (wholeOf s) long (whole-lt s) least u
 
@@ -177,8 +173,8 @@ module _ (row : Row) (epoch : ℕ) (s : List ℕ) (long : length (row .strings) 
   record-after = by (eqb (firstOf (offerTests (frameOf row) epoch s)) 0) refl ∙ ap (nextRecord row) (sym (frame-after row epoch s long))
     where
       by : (t : Bool) → eqb (firstOf (offerTests (frameOf row) epoch s)) 0 ≡ t
-          → recordOf (pick t (takenRow row epoch (wholeOf s) (verdictOf (ruling (plainOf s)))) (counted Refused row) .immediate)
-          ≡ nextRecord row (pick t (pick (isHere (frameOf row) epoch (wholeOf s)) (frameOf row) (withString (frameFor (frameOf row) (startOf epoch (wholeOf s))) (wholeOf s))) (frameOf row))
+          → recordOf (pick t (takenRow row epoch (wholeOf s)) row .immediate)
+          ≡ nextRecord row (pick t (pick (isHere (frameOf row) epoch (wholeOf s)) (frameOf row) more) (frameOf row))
       by true e = taken-record (taken-numbered (frameOf row) epoch s (eqb-true (firstOf (offerTests (frameOf row) epoch s)) 0 e))
       by false e = same-record row u
 

@@ -11,9 +11,8 @@ use lib.Dec.{eqb, leb}
 use lib.ListN.{getD}
 use Rattle.strings.specs.Pick.{pick}
 use Rattle.strings.specs.declared.Verdict.{Verdict}
-use Rattle.strings.specs.declared.Verdict.the-variants.{Clean, Repaired}
 use Rattle.strings.specs.Numbers.{Test, Exactly, leftBy, firstOf, placeOf, saidBy}
-use Rattle.strings.proofs.Answer.{refusal-same, exactly}
+use Rattle.strings.proofs.Answer.{exactly}
 use Rattle.channel.specs.declared.News.{News}
 use Rattle.channel.specs.declared.News.the-variants.{AlreadyHeld, Kept, RecordBuilt, RecordOutOfRange}
 use Rattle.channel.specs.declared.Answer.{Answer}
@@ -24,37 +23,11 @@ use Rattle.words.specs.Calls.{numberIn}
 use Rattle.strings.specs.Hamming.{ruling}
 use Rattle.channel.specs.Frame.{Frame, withString, startOf, isHere, frameFor, isComplete, isReadable, newsAt, newsOf}
 use Rattle.tallies.specs.Tallies.Outcome.{Taken as TAKEN}
-use Rattle.channel.specs.Row.{frameOf, recorded, counted}
-use Rattle.channel.specs.Offers.{newsNumber, toldOf, answerPaper, verdictOf, plainOf, wholeOf, offerTests, Offers, takenRow, isTaken, isNew, isStored, storesIt}
-use Rattle.channel.proofs.OfferAnswers.{not-taken}
+use Rattle.channel.specs.Row.{frameOf, heldWith, counted}
+use Rattle.hearing.specs.Hears.{verdictOf, plainOf, wholeOf}
+use Rattle.channel.specs.Offers.{toldOf, answerPaper, offerTests, Offers, takenRow, isTaken, isNew, isStored, storesIt}
+use Rattle.channel.proofs.Answers.{answer-same}
 use Rattle.channel.proofs.HeldFrame.{offered-is, taken-exactly}
-
--- ---- an answer is known by its numbers
-abbrev newsBy : ℕ → News
-newsBy k = pick (eqb k 0) AlreadyHeld (pick (eqb k 1) Kept (pick (eqb k 2) RecordBuilt RecordOutOfRange))
-
-abbrev verdictBy : ℕ → ℕ → Verdict
-verdictBy k i = pick (eqb k 0) Clean (Repaired i)
-
--- a taken answer, told by the numbers after the 0
-abbrev takenBy : List ℕ → Answer
-takenBy l = Taken (getD l 1 0) (verdictBy (getD l 2 0) (getD l 3 0)) (newsBy (getD l 4 0))
-
-news-by : (w : News) → newsBy (newsNumber w) ≡ w
-news-by AlreadyHeld = refl
-news-by Kept = refl
-news-by RecordBuilt = refl
-news-by RecordOutOfRange = refl
-
-taken-by : (m : ℕ) (v : Verdict) (w : News) → takenBy (answerPaper (Taken m v w)) ≡ Taken m v w
-taken-by m Clean w = ap (Taken m Clean) (news-by w)
-taken-by m (Repaired i) w = ap (Taken m (Repaired i)) (news-by w)
-
-pub answer-same : (a b : Answer) → answerPaper a ≡ answerPaper b → a ≡ b
-answer-same (Taken m v w) (Taken k x y) e = sym (taken-by m v w) ∙ ap takenBy e ∙ taken-by k x y
-answer-same (Taken m v w) (Refused q) e = absurd (not-taken q _ (sym e))
-answer-same (Refused q) (Taken m v w) e = absurd (not-taken q _ e)
-answer-same (Refused q) (Refused p) e = ap Refused (refusal-same q p e)
 
 -- ---- NO SECOND ANSWER FITS, and no second row
 pub offers-once : (row : Row) (epoch : ℕ) (s : List ℕ) (r q : Offered) → Offers row epoch s r → Offers row epoch s q → r ≡ q
@@ -105,7 +78,7 @@ stored-said row epoch s r o = by (r .answer) (firstOf tests) refl (o .answer)
 -- ---- "ONE ALREADY HELD CHANGES ONLY TALLIES"
 pub held-only : (row : Row) (epoch : ℕ) (s : List ℕ) (r : Offered) (m : ℕ) (v : Verdict) → Offers row epoch s r → r .answer ≡ Taken m v AlreadyHeld
     → r .row ≡ counted (TAKEN (verdictOf (ruling (plainOf s)))) row
-unfolding takenRow recorded
+unfolding takenRow heldWith
 held-only row epoch s r m v o e =
     let t : eqb (firstOf (offerTests (frameOf row) epoch s)) 0 ≡ true = sym (taken-exactly row epoch s r o) ∙ ap isTaken e in
     let n : not (isHere (frameOf row) epoch (wholeOf s)) ≡ false =

@@ -1,58 +1,190 @@
--- An offer, test by test: what it leaves where the first test fits, where it does not, and where there is none; and that a string which is not
--- here yet is stored as the definition of a taken one says.
+-- An offer, test by test: what it leaves where some test fits and where none does; what a fate and what is heard come to; and the row of it all.
 -- Assumes nothing.
-use mathlib.Core.Path.{_≡_, ap, ap₂, _∙_}
-use mathlib.Core.Bool.{Bool, true, false}
-use mathlib.Core.List.{List, [], _∷_}
-use Prim.Native.Nat.{ℕ, suc, _^_, _≤_, _<_}
-use lib.ListN.{length}
+use mathlib.Core.Path.{_≡_, refl, sym, ap, ap₂, subst, _∙_}
+use mathlib.Core.Bool.{Bool, true, false, _&&_}
+use mathlib.Core.List.{List, [], _∷_, _++_}
+use Prim.Native.Nat.{ℕ, zero, suc, _≤_}
 use native.Mathlib.Omega.{arith}
-use borrow.Author.Tests.{ne-eqb}
+use borrow.Author.Tests.{ne-eqb, eqb-true, eqb-false}
+use lib.Arith.{lt-of-le-ne}
+use lib.Dec.{eqb}
+use lib.ListN.{getD, drop}
+use Rattle.strings.specs.Pick.{pick}
 use Rattle.strings.specs.declared.Refusal.{Refusal}
 use Rattle.strings.specs.declared.Verdict.{Verdict}
-use Rattle.strings.specs.Numbers.{refusalPaper, Test, test}
+use Rattle.strings.specs.declared.Checked.{Checked}
+use Rattle.strings.specs.declared.Checked.the-variants.{Taken as Sound, Refused as NotTaken}
+use Rattle.strings.specs.Number.{numberOf, misshapen}
+use Rattle.strings.specs.Hamming.{ruling}
+use Rattle.strings.specs.Numbers.{refusalPaper, Test, test, firstOf, placeOf, saidBy, answerOf}
+use Rattle.strings.specs.Calls.{checkedPaper, verdictTold}
 use Rattle.words.specs.Calls.{numberIn}
+use Rattle.book.proofs.Good.{both}
+use Rattle.channel.specs.declared.Fate.{Fate}
+use Rattle.channel.specs.declared.Fate.the-variants.{Refused as No, Held as Here, New}
 use Rattle.channel.specs.declared.News.{News}
+use Rattle.channel.specs.declared.News.the-variants.{AlreadyHeld}
+use Rattle.channel.specs.declared.Answer.{Answer}
 use Rattle.channel.specs.declared.Answer.the-variants.{Taken, Refused}
 use Rattle.channel.specs.declared.Row.{Row}
 use Rattle.channel.specs.declared.Offered.{Offered}
+use Rattle.tallies.specs.Tallies.{Outcome}
 use Rattle.tallies.specs.Tallies.Outcome.{Refused as REFUSED, Taken as TAKEN}
-use Rattle.channel.specs.Frame.{Frame, withString, startOf, isHere, newsAt}
-use Rattle.channel.specs.Row.{frameOf, rowFor, stored, recorded, counted}
-use Rattle.channel.specs.Offers.{answerPaper, toldAs, Settles, newNews, Stores, PlacesBy, takenRow}
-use Rattle.channel.proofs.Frames.{row-for, stored-frame}
+use Rattle.channel.specs.Frame.{Frame, withString, startOf, isOfFrame, isHere, frameFor, placeTests, newsAt, newsOf}
+use Rattle.immediate.specs.Kept.{recordBy}
+use Rattle.channel.specs.Row.{holdsFrame, Held, held, frameIn, heldOf, frameOf, newFrame, bytesBy, heldFor, stored, heldWith, holding, isBuilt, counted}
+use Rattle.hearing.specs.Hears.{plainOf, wholeOf, hearTests, Hears, verdictIn}
+use Rattle.channel.specs.Offers.{answerPaper, toldAs, toldOf, Settles, Places, StoresIn, fatePaper, fateTold, FateBy, offerTests, OffersApart, takenRow, Offers, outcomeOf, tellsRecord}
+use Rattle.channel.proofs.Frames.{held-for}
+use Rattle.strings.proofs.Answer.{not-taken}
+use Rattle.channel.proofs.Answers.{counts-by, tells-by}
+use Rattle.hearing.proofs.Hearing.{none-fits, heard-number, heard-shape, heard-verdict}
 
 -- ---- test by test
-module _ {told : List ℕ} {row taken : Row} {r : Offered} where
-  -- the first test fits: its number, and two tallies
-  pub settles-no : (k : ℕ) {b : Bool} {ts : List Test} (q : Refusal) → refusalPaper q ≡ suc k ∷ [] → b ≡ true
-      → (r .answer ≡ Refused q) × (r .row ≡ counted REFUSED row) → Settles (test (suc k) b ∷ ts) told row taken r
-  settles-no k q p e s =
-      record { answer = rw e (ap answerPaper (s .0) ∙ p); left = rw (e, ne-eqb (suc k) 0 (λ z. omega arith)) (s .1) }
+-- a refusal by some tests is one by these and others after them: nothing changes
+module _ {told : List ℕ} {h taken : Held} (q : Refusal) (before : List ℕ) where
+  first-fits : (k : ℕ) (p : List ℕ) (b : Bool) (ts us : List Test) → (refusalPaper q ≡ answerOf ts before → Settles us told h taken (Refused q) h)
+      → refusalPaper q ≡ saidBy (pick b k (firstOf ts)) (pick b p (placeOf ts)) before
+      → Settles (record { number = k; place = p; fits = b } ∷ us) told h taken (Refused q) h
+  first-fits zero p true ts us ih e = absurd (not-taken q before e)
+  first-fits (suc k) p true ts us ih e = record { answer = e; left = rw (ne-eqb (suc k) 0 (λ z. omega arith)) }
+  first-fits k p false ts us ih e = let t = ih e in record { answer = t .answer; left = t .left }
 
-  -- it does not: the others decide
-  pub settles-on : (k : ℕ) {b : Bool} {ts : List Test} → b ≡ false → Settles ts told row taken r → Settles (test k b ∷ ts) told row taken r
-  settles-on k e s = record { answer = rw e (s .answer); left = rw e (s .left) }
+  pub refuses : (ts us : List Test) → refusalPaper q ≡ answerOf ts before → Settles (ts ++ us) told h taken (Refused q) h
+  refuses [] us e = absurd (not-taken q before e)
+  refuses (t ∷ ts) us e = first-fits (t .number) (t .place) (t .fits) ts (ts ++ us) (refuses ts us) e
 
--- ---- storing, step by step: the string stored, the news of it, the record, the tallies
-pub stores-by : (row : Row) (n m : ℕ) (v : Verdict) (next : Row) (w : News) (kept : Row) (r : Offered) → length (row .strings) ≡ 165 → n < 2 ^ 85
-    → 1 ≤ numberIn n → m ≡ numberIn n → next ≡ stored row n → w ≡ newsAt (frameOf next) m → kept ≡ recorded w next
-    → (r .answer ≡ Taken m v w) × (r .row ≡ counted (TAKEN v) kept) → Stores row n v r
-stores-by row n m v next w kept r long small least e f g h t =
-    let i : w ≡ newNews row n = g ∙ ap₂ (λ (x : Row) (y : ℕ). newsAt (frameOf x) y) f e ∙ ap (λ (x : Frame). newsAt x (numberIn n)) (stored-frame row n long small least) in
-    record {
-      answer = ap answerPaper (t .0) ∙ ap₂ (λ (x : ℕ) (y : News). 0 ∷ toldAs x v y) e i;
-      left = t .1 ∙ ap (counted (TAKEN v)) (h ∙ ap₂ recorded i f);
-    }
+-- a test that does not fit: the others decide
+pub settles-on : {told : List ℕ} {h taken : Held} {a : Answer} {h′ : Held} (k : ℕ) {b : Bool} {ts : List Test} → b ≡ false
+    → Settles ts told h taken a h′ → Settles (test k b ∷ ts) told h taken a h′
+settles-on k e s = record { answer = rw e (s .answer); left = rw e (s .left) }
 
--- ---- a string that is not here yet is stored in the frame that it joins
-pub stores-at : (row : Row) (epoch n : ℕ) (v : Verdict) (r : Offered) → isHere (frameOf row) epoch n ≡ false
-    → Stores (rowFor row (startOf epoch n)) n v r → PlacesBy [] row epoch n v r
-unfolding takenRow
-stores-at row epoch n v r e s =
-    let w : Frame → News = λ (f : Frame). newsAt (withString f n) (numberIn n) in
-    let base = rowFor row (startOf epoch n) in
-    record {
-      answer = rw e (s .answer ∙ ap (λ (f : Frame). 0 ∷ toldAs (numberIn n) v (w f)) (row-for row (startOf epoch n)));
-      left = rw e (s .left ∙ ap (λ (f : Frame). counted (TAKEN v) (recorded (w f) (stored base n))) (row-for row (startOf epoch n)));
-    }
+-- no test fits
+takes : {told : List ℕ} {h taken : Held} {a : Answer} {h′ : Held} (ts : List Test) → firstOf ts ≡ 0 → answerPaper a ≡ 0 ∷ told → h′ ≡ taken
+    → Settles ts told h taken a h′
+takes {told} {h} {taken} ts z e f =
+    record { answer = e ∙ ap (λ (k : ℕ). saidBy k (placeOf ts) told) (sym z); left = f ∙ ap (λ (k : ℕ). pick (eqb k 0) taken h) (sym z) }
+
+-- ---- what a fate comes to
+-- already held: no test fits, and the string is here
+fated-here : (k : ℕ) (place told : List ℕ) (t : Bool) → 0 ∷ 0 ∷ [] ≡ saidBy k place (pick t (0 ∷ []) (1 ∷ told)) → (k ≡ 0) × (t ≡ true)
+fated-here zero place told true e = (refl, refl)
+fated-here zero place told false e = let q : _≡_ {A = ℕ} 0 1 = ap (λ (l : List ℕ). getD l 1 0) e in absurd (omega arith)
+fated-here (suc k) place told t e = let q : _≡_ {A = ℕ} 0 (suc k) = ap (λ (l : List ℕ). getD l 0 0) e in absurd (omega arith)
+
+-- new: no test fits, the string is not here, and the frame it joins
+fated-new : (k : ℕ) (place : List ℕ) (a b c d : ℕ) (t : Bool) → 0 ∷ 1 ∷ a ∷ b ∷ [] ≡ saidBy k place (pick t (0 ∷ []) (1 ∷ c ∷ d ∷ []))
+    → ((k ≡ 0) × (t ≡ false)) × ((a ≡ c) × (b ≡ d))
+fated-new zero place a b c d true e = let q : _≡_ {A = ℕ} 1 0 = ap (λ (l : List ℕ). getD l 1 0) e in absurd (omega arith)
+fated-new zero place a b c d false e = ((refl, refl), (ap (λ (l : List ℕ). getD l 2 0) e, ap (λ (l : List ℕ). getD l 3 0) e))
+fated-new (suc k) place a b c d t e = let q : _≡_ {A = ℕ} 0 (suc k) = ap (λ (l : List ℕ). getD l 0 0) e in absurd (omega arith)
+
+past-five : (b : Bool) (ts : List Test) → firstOf (test 5 b ∷ ts) ≡ 0 → b ≡ false
+past-five true ts e = let z : _≡_ {A = ℕ} 5 0 = e in absurd (omega arith)
+past-five false ts e = refl
+
+-- the frame that a new string joins: the held one, or a new one
+joined-held : (h : Held) (start : ℕ) → isOfFrame (frameIn h) start ≡ true → held start (h .mask) (bytesBy (h .mask) (h .bytes)) ≡ h
+joined-held h start e =
+    let p = both (holdsFrame (h .mask)) (eqb start (h .start)) e in
+    rw (p .0) (ap (λ (x : ℕ). held x (h .mask) (h .bytes)) (eqb-true start (h .start) (p .1)))
+
+joined-new : (h : Held) (start : ℕ) → held start 0 (bytesBy 0 (h .bytes)) ≡ newFrame start
+unfolding newFrame holdsFrame
+joined-new h start = refl
+
+joined : (h : Held) (start : ℕ) (t : Bool) → isOfFrame (frameIn h) start ≡ t
+    → held start (pick t (h .mask) 0) (bytesBy (pick t (h .mask) 0) (h .bytes)) ≡ pick t h (newFrame start)
+joined h start true e = joined-held h start e
+joined h start false e = joined-new h start
+
+module _ (h : Held) (epoch n : ℕ) (v : Verdict) (r : Fate) (f : FateBy (placeTests (frameIn h) epoch n) h epoch n r) where
+  abbrev tests : List Test
+  tests = placeTests (frameIn h) epoch n
+
+  pub placed-not : (q : Refusal) → r ≡ No q → Places h epoch n v (Refused q) h
+  placed-not q e = refuses q (fateTold h epoch n) tests [] (ap fatePaper (sym e) ∙ f)
+
+  pub placed-here : r ≡ Here → Places h epoch n v (Taken (numberIn n) v AlreadyHeld) h
+  unfolding heldWith
+  placed-here e =
+      let p = fated-here (firstOf tests) (placeOf tests) _ (isHere (frameIn h) epoch n) (ap fatePaper (sym e) ∙ f) in
+      takes tests (p .0)
+      (ap (λ (t : Bool). 0 ∷ toldAs (numberIn n) v (pick t AlreadyHeld (newsAt (withString (frameFor (frameIn h) (startOf epoch n)) n) (numberIn n)))) (sym (p .1)))
+      (ap (λ (t : Bool). pick t h (stored (heldFor h (startOf epoch n)) n)) (sym (p .1)))
+
+  module _ (start mask : ℕ) (e : r ≡ New start mask) where
+    facts : ((firstOf tests ≡ 0) × (isHere (frameIn h) epoch n ≡ false))
+        × ((start ≡ startOf epoch n) × (mask ≡ pick (isOfFrame (frameIn h) (startOf epoch n)) (h .mask) 0))
+    facts = fated-new (firstOf tests) (placeOf tests) start mask _ _ (isHere (frameIn h) epoch n) (ap fatePaper (sym e) ∙ f)
+
+    -- a string that is taken has a number
+    pub new-numbered : 1 ≤ numberIn n
+    new-numbered =
+        let z = eqb-false (numberIn n) 0 (past-five (eqb (numberIn n) 0) (drop 1 tests) (facts .0 .0)) in
+        lt-of-le-ne (omega arith) (λ q. z (sym q))
+
+    -- it is stored in the frame that it joins
+    pub placed-new : (a : Answer) (h′ : Held) → StoresIn (held start mask (bytesBy mask (h .bytes))) n v a h′ → Places h epoch n v a h′
+    unfolding heldWith
+    placed-new a h′ s =
+        let o = startOf epoch n in
+        let i : held start mask (bytesBy mask (h .bytes)) ≡ heldFor h o =
+        ap₂ (λ (x y : ℕ). held x y (bytesBy y (h .bytes))) (facts .1 .0) (facts .1 .1) ∙ joined h o (isOfFrame (frameIn h) o) refl
+        in
+        let k = subst (λ (x : Held). StoresIn x n v a h′) i s in
+        takes tests (facts .0 .0)
+        (ap answerPaper (k .answer)
+        ∙ ap (λ (x : Frame). 0 ∷ toldAs (numberIn n) v (newsAt (withString x n) (numberIn n))) (held-for h o)
+        ∙ ap (λ (t : Bool). 0 ∷ toldAs (numberIn n) v (pick t AlreadyHeld (newsAt (withString (frameFor (frameIn h) o) n) (numberIn n)))) (sym (facts .0 .1)))
+        (k .left ∙ ap (λ (t : Bool). pick t h (stored (heldFor h o) n)) (sym (facts .0 .1)))
+
+-- ---- what is heard comes to
+module _ (h : Held) (epoch : ℕ) (s out out′ : List ℕ) (c : Checked) (a : Hears s out c out′) where
+  pub heard-no : (q : Refusal) → c ≡ NotTaken q → OffersApart h epoch s (Refused q) h
+  unfolding Hears
+  heard-no q e =
+      refuses q (verdictTold (ruling (plainOf s))) (hearTests s) (placeTests (frameIn h) epoch (wholeOf s)) (ap checkedPaper (sym e) ∙ a .answer)
+
+  pub heard-shaped : (v : Verdict) → c ≡ Sound v → misshapen out′ ≡ false
+  heard-shaped v e = heard-shape s out out′ v (subst (λ (y : Checked). Hears s out y out′) e a)
+
+  pub heard-on : (v : Verdict) → c ≡ Sound v → (x : Answer) (h′ : Held) → Places h epoch (numberOf out′) v x h′ → OffersApart h epoch s x h′
+  heard-on v e x h′ p =
+      let b : Hears s out (Sound v) out′ = subst (λ (y : Checked). Hears s out y out′) e a in
+      let n = none-fits s out out′ v b in
+      settles-on 2 (n .0) (settles-on 3 (n .1 .0) (settles-on 4 (n .1 .1)
+      (subst (λ (w : Verdict). Places h epoch (wholeOf s) w x h′) (heard-verdict s out out′ v b)
+      (subst (λ (k : ℕ). Places h epoch k v x h′) (heard-number s out out′ v b) p))))
+
+-- ---- the row of it all: what is held, the record and the tallies by the answer
+abbrev pub rowBy : Row → Held → Bool → Outcome → Row
+rowBy row h built o = counted o (holding row h (recordBy built (h .bytes) (row .immediate)))
+
+module _ (row : Row) (epoch : ℕ) (s : List ℕ) where
+  abbrev theTests : List Test
+  theTests = offerTests (frameOf row) epoch s
+
+  abbrev theNews : News
+  theNews = newsOf (frameOf row) epoch (wholeOf s)
+
+  row-by : (t : Bool) → rowBy row (pick t (heldWith (heldOf row) epoch (wholeOf s)) (heldOf row)) (pick t (isBuilt theNews) false) (pick t (TAKEN (verdictIn s)) REFUSED)
+      ≡ counted (pick t (TAKEN (verdictIn s)) REFUSED) (pick t (takenRow row epoch (wholeOf s)) row)
+  unfolding takenRow counted
+  row-by true = refl
+  row-by false = refl
+
+  pub offers-by : (h′ : Held) (r : Offered) → OffersApart (heldOf row) epoch s (r .answer) h′
+      → r .row ≡ rowBy row h′ (tellsRecord (r .answer)) (outcomeOf (r .answer)) → Offers row epoch s r
+  unfolding Offers
+  offers-by h′ r a e =
+      let k = firstOf theTests in
+      let place = placeOf theTests in
+      let m = numberIn (wholeOf s) in
+      record {
+        answer = a .answer;
+        left =
+            e ∙ ap₂ (λ (x : Bool) (y : Outcome). rowBy row h′ x y) (tells-by place m (verdictIn s) theNews (r .answer) k (a .answer)) (counts-by place m (verdictIn s) theNews (r .answer) k (a .answer))
+            ∙ ap (λ (x : Held). rowBy row x (pick (eqb k 0) (isBuilt theNews) false) (pick (eqb k 0) (TAKEN (verdictIn s)) REFUSED)) (a .left)
+            ∙ row-by (eqb k 0);
+      }

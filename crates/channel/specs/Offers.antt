@@ -6,26 +6,24 @@ use mathlib.Core.List.{List, [], _∷_, _++_}
 use mathlib.Core.Path.{_≡_}
 use lib.Dec.{eqb}
 use Rattle.strings.specs.Pick.{pick}
+use Rattle.strings.specs.declared.Refusal.the-variants.{Conflict}
 use Rattle.strings.specs.declared.Verdict.{Verdict}
-use Rattle.strings.specs.declared.Verdict.the-variants.{Clean}
-use Rattle.strings.specs.declared.hamming.Ruling.{Ruling}
-use Rattle.strings.specs.declared.hamming.Ruling.the-variants.{Sound, Damaged}
-use Rattle.strings.specs.Number.{numberOf, misshapen}
-use Rattle.relative.specs.Relative.{readRelative}
-use Rattle.strings.specs.Hamming.{ruling, isDamaged, mended}
-use Rattle.strings.specs.Numbers.{refusalPaper, verdictPaper, Test, test, firstOf, answerOf}
-use Rattle.strings.specs.Calls.{isIdle}
+use Rattle.strings.specs.Numbers.{refusalPaper, verdictPaper, Test, firstOf, answerOf}
 use Rattle.words.specs.Calls.{numberIn}
+use Rattle.hearing.specs.Hears.{wholeOf, verdictIn, hearTests}
 use Rattle.channel.specs.declared.News.{News}
 use Rattle.channel.specs.declared.News.the-variants.{AlreadyHeld, Kept, RecordBuilt, RecordOutOfRange}
 use Rattle.channel.specs.declared.Answer.{Answer}
 use Rattle.channel.specs.declared.Answer.the-variants.{Taken, Refused}
+use Rattle.channel.specs.declared.Fate.{Fate}
+use Rattle.channel.specs.declared.Fate.the-variants.{Refused as No, Held as Here, New}
 use Rattle.channel.specs.declared.Row.{Row}
 use Rattle.channel.specs.declared.Offered.{Offered}
-use Rattle.tallies.specs.Tallies.{oneMore}
+use Rattle.tallies.specs.Tallies.{Outcome, oneMore}
 use Rattle.tallies.specs.Tallies.Outcome.{Refused as REFUSED, Taken as TAKEN}
-use Rattle.channel.specs.Frame.{Frame, startOf, isHere, placeTests, withString, newsAt, newsOf}
-use Rattle.channel.specs.Row.{frameOf, rowFor, stored, recorded, counted}
+use Rattle.channel.specs.Frame.{Frame, withString, startOf, dataIn, isOfFrame, isHere, placeTests, newsAt, newsOf}
+use Rattle.immediate.specs.Kept.{recordBy}
+use Rattle.channel.specs.Row.{isPresent, stringIn, Held, frameIn, heldOf, frameOf, stored, heldWith, holding, isBuilt, counted}
 
 -- ---- the answer in the paper's numbers
 -- news: 0 already held, 1 kept, 2 record built, 3 record out of range
@@ -45,68 +43,92 @@ answerPaper (Taken m v w) = 0 ∷ toldAs m v w
 answerPaper (Refused r) = refusalPaper r
 
 -- ---- the tests are tried in order; "offers refused with 2..9 add to the tallies offered and refused" and change nothing else
-abbrev pub settledRow : List Test → Row → Row → Row
-settledRow tests row taken = pick (eqb (firstOf tests) 0) taken (counted REFUSED row)
+abbrev pub settled {ℓ} : {A : Type ℓ} → List Test → A → A → A
+settled tests a taken = pick (eqb (firstOf tests) 0) taken a
 
--- an offer to a row that tries these tests in this order: its answer in the paper's numbers, and the whole row that it leaves, where a taken
--- string tells `told` and leaves the row `taken`
-pub record Settles (tests : List Test) (told : List ℕ) (row taken : Row) (r : Offered) : Type 0 where
-  pub answer : answerPaper (r .answer) ≡ answerOf tests told
-  pub left : r .row ≡ settledRow tests row taken
+-- an offer to what is held that tries these tests in this order: its answer in the paper's numbers, and what is held after it, where a taken
+-- string tells `told` and leaves `taken`
+pub record Settles (tests : List Test) (told : List ℕ) (h taken : Held) (a : Answer) (h′ : Held) : Type 0 where
+  pub answer : answerPaper a ≡ answerOf tests told
+  pub left : h′ ≡ settled tests h taken
 
--- ---- a string that the check left, with its verdict
--- stored in a frame that does not have it
-abbrev pub newNews : Row → ℕ → News
-newNews row n = newsAt (withString (frameOf row) n) (numberIn n)
-
-abbrev pub Stores : Row → ℕ → Verdict → Offered → Type 0
-Stores row n v r = Settles [] (toldAs (numberIn n) v (newNews row n)) row (counted (TAKEN v) (recorded (newNews row n) (stored row n))) r
-
--- placed at an epoch, after these tests
+-- ---- a string that the check left, with its verdict, placed at an epoch
 abbrev pub toldOf : Frame → ℕ → ℕ → Verdict → List ℕ
 toldOf f epoch n v = toldAs (numberIn n) v (newsOf f epoch n)
 
--- the row after it is taken: "one already held changes only tallies"
-unfoldable pub takenRow : Row → ℕ → ℕ → Verdict → Row
-takenRow row epoch n v =
-    counted (TAKEN v) (recorded (newsOf (frameOf row) epoch n) (pick (isHere (frameOf row) epoch n) row (stored (rowFor row (startOf epoch n)) n)))
-
-abbrev pub PlacesBy : List Test → Row → ℕ → ℕ → Verdict → Offered → Type 0
-PlacesBy tests row epoch n v r = Settles tests (toldOf (frameOf row) epoch n v) row (takenRow row epoch n v) r
+-- after these tests
+abbrev pub PlacesBy : List Test → Held → ℕ → ℕ → Verdict → Answer → Held → Type 0
+PlacesBy tests h epoch n v a h′ = Settles tests (toldOf (frameIn h) epoch n v) h (heldWith h epoch n) a h′
 
 -- 5 to 9
-abbrev pub Places : Row → ℕ → ℕ → Verdict → Offered → Type 0
-Places row epoch n v r = PlacesBy (placeTests (frameOf row) epoch n) row epoch n v r
+abbrev pub Places : Held → ℕ → ℕ → Verdict → Answer → Held → Type 0
+Places h epoch n v a h′ = PlacesBy (placeTests (frameIn h) epoch n) h epoch n v a h′
 
--- ---- a plain string: 3, 4, then 5 to 9 of the string as the check leaves it
-abbrev pub plainTests : Frame → ℕ → ℕ → List Test
-plainTests f epoch x = test 3 (isDamaged (ruling x)) ∷ test 4 (isIdle (mended x)) ∷ placeTests f epoch (mended x)
+-- stored where it is new: the answer and what is held
+pub record StoresIn (h : Held) (n : ℕ) (v : Verdict) (a : Answer) (h′ : Held) : Type 0 where
+  pub answer : a ≡ Taken (numberIn n) v (newsAt (withString (frameIn h) n) (numberIn n))
+  pub left : h′ ≡ stored h n
 
--- the verdict of a ruling; a damaged string has none, and is refused
-abbrev pub verdictOf : Ruling → Verdict
-verdictOf (Sound v) = v
-verdictOf (Damaged d) = Clean
+-- ---- the fate of such a string in numbers: the number that says no; 0 0, already held; 0 1, new, with the start of its frame and the mask that this has
+abbrev pub fatePaper : Fate → List ℕ
+fatePaper (No r) = refusalPaper r
+fatePaper Here = 0 ∷ 0 ∷ []
+fatePaper (New start mask) = 0 ∷ 1 ∷ start ∷ mask ∷ []
 
-abbrev pub OffersPlain : Row → ℕ → ℕ → Offered → Type 0
-OffersPlain row epoch x r = PlacesBy (plainTests (frameOf row) epoch x) row epoch (mended x) (verdictOf (ruling x)) r
+abbrev pub fateTold : Held → ℕ → ℕ → List ℕ
+fateTold h epoch n =
+    pick (isHere (frameIn h) epoch n) (0 ∷ []) (1 ∷ startOf epoch n ∷ pick (isOfFrame (frameIn h) (startOf epoch n)) (h .mask) 0 ∷ [])
 
--- ---- an offer of bytes of any length: "the station takes the relative form only". 2, then the string read from its symbols
-abbrev pub plainOf : List ℕ → ℕ
-plainOf s = readRelative (numberOf s)
+abbrev pub FateBy : List Test → Held → ℕ → ℕ → Fate → Type 0
+FateBy tests h epoch n r = fatePaper r ≡ answerOf tests (fateTold h epoch n)
 
--- the string that an offer brings, as the check leaves it
-abbrev pub wholeOf : List ℕ → ℕ
-wholeOf s = mended (plainOf s)
+-- in the held frame, whose start is the string's
+abbrev pub fateWithin : Held → ℕ → Fate
+fateWithin h n =
+    pick (isPresent (h .mask) (numberIn n))
+    (pick (eqb (dataIn (stringIn (h .bytes) (numberIn n))) (dataIn n)) Here (No Conflict))
+    (New (h .start) (h .mask))
 
+-- ---- an offer of bytes of any length: 2 to 4 by what is heard of them, then 5 to 9 of the string as the check leaves it
 abbrev pub offerTests : Frame → ℕ → List ℕ → List Test
-offerTests f epoch s = test 2 (misshapen s) ∷ plainTests f epoch (plainOf s)
+offerTests f epoch s = hearTests s ++ placeTests f epoch (wholeOf s)
+
+-- what is said, and what is held after it
+abbrev pub OffersApart : Held → ℕ → List ℕ → Answer → Held → Type 0
+OffersApart h epoch s a h′ = PlacesBy (offerTests (frameIn h) epoch s) h epoch (wholeOf s) (verdictIn s) a h′
+
+-- ---- the row that it leaves
+-- a taken string: what is held, and the record by the news
+unfoldable pub takenRow : Row → ℕ → ℕ → Row
+takenRow row epoch n =
+    let h = heldWith (heldOf row) epoch n in
+    holding row h (recordBy (isBuilt (newsOf (frameOf row) epoch n)) (h .bytes) (row .immediate))
+
+-- what becomes of it, as far as the tallies go
+abbrev pub outcomeBy : List Test → Verdict → Outcome
+outcomeBy tests v = pick (eqb (firstOf tests) 0) (TAKEN v) REFUSED
+
+abbrev pub offeredRow : Row → ℕ → List ℕ → Row
+offeredRow row epoch s =
+    counted (outcomeBy (offerTests (frameOf row) epoch s) (verdictIn s)) (settled (offerTests (frameOf row) epoch s) row (takenRow row epoch (wholeOf s)))
+
+-- an offer: its answer in the paper's numbers, and the whole row that it leaves
+pub record Leaves (said : List ℕ) (next : Row) (r : Offered) : Type 0 where
+  pub answer : answerPaper (r .answer) ≡ said
+  pub left : r .row ≡ next
 
 unfoldable pub Offers : Row → ℕ → List ℕ → Offered → Type 0
-Offers row epoch s r = PlacesBy (offerTests (frameOf row) epoch s) row epoch (wholeOf s) (verdictOf (ruling (plainOf s))) r
+Offers row epoch s r =
+    Leaves (answerOf (offerTests (frameOf row) epoch s) (toldOf (frameOf row) epoch (wholeOf s) (verdictIn s))) (offeredRow row epoch s) r
 
--- the row that it leaves
-abbrev pub offeredRow : Row → ℕ → List ℕ → Row
-offeredRow row epoch s = settledRow (offerTests (frameOf row) epoch s) row (takenRow row epoch (wholeOf s) (verdictOf (ruling (plainOf s))))
+-- what an answer counts as, and whether it tells that a record is built
+abbrev pub outcomeOf : Answer → Outcome
+outcomeOf (Taken m v w) = TAKEN v
+outcomeOf (Refused r) = REFUSED
+
+abbrev pub tellsRecord : Answer → Bool
+tellsRecord (Taken m v w) = isBuilt w
+tellsRecord (Refused r) = false
 
 -- ---- "a refused string changes nothing but its channel's tallies of strings offered and refused"
 abbrev pub isTaken : Answer → Bool

@@ -4,22 +4,14 @@ mod offering;
 mod placing;
 mod rows;
 
-pub use completing::has_record;
+use immediate::Immediate;
 pub use offering::is_stored;
 pub use offering::offer;
-pub use placing::place;
 pub use rows::empty_row;
 pub use rows::has_string;
 use strings::Refusal;
 use strings::Verdict;
 use tallies::Tallies;
-
-// The strings 1 to 4 that the latest immediate record was read from. Where their words are not in
-// range, as in a reset row's zeros, there is no record.
-#[repr(C)]
-pub struct Immediate {
-    pub strings: [u8; 44],
-}
 
 // The latest immediate record; fifteen strings of one frame, eleven bytes each; the frame's start; a
 // mask of the strings that are present, string m at bit m-1; and the tallies. All zero is a reset
@@ -32,6 +24,26 @@ pub struct Row {
     pub start: u32,
     pub present: u16,
     pub tallies: Tallies,
+}
+
+// The numbers of a row's frame, beside its strings: its start, and its mask.
+pub struct Head {
+    pub start: u32,
+    pub present: u16,
+}
+
+// What becomes of a checked string: refused; held already; or new in the frame of a start, with the
+// mask of the strings that this frame has.
+pub enum Fate {
+    Refused(Refusal),
+    Held,
+    New(u32, u16),
+}
+
+// An offer's answer, and the numbers of the row after it.
+pub struct Moved {
+    pub head: Head,
+    pub answer: Answer,
 }
 
 // What a taken string brought.

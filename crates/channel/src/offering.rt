@@ -1,39 +1,71 @@
 // An offer of bytes of any length to a row.
 use crate::Answer;
+use crate::Head;
+use crate::Moved;
 use crate::News;
 use crate::Offered;
 use crate::Row;
+use crate::completing::is_built;
 use crate::placing::place;
-use crate::placing::refuse;
+use hearing::hear;
+use immediate::first_four;
 use strings::Checked;
-use strings::Written;
+use tallies::Tallies;
+use tallies::count_refused;
+use tallies::count_taken;
 ghost use mathlib.Core.Path.{_≡_};
-ghost use mathlib.Core.Bool.{false};
-ghost use Rattle.strings.specs.Number.{numberOf, misshapen};
-ghost use Rattle.channel.specs.Offers.{OffersPlain, Offers, isNew, isStored};
+ghost use lib.ListN.{length};
+ghost use Rattle.tallies.specs.Tallies.{afterOffer};
+ghost use Rattle.channel.specs.Row.{heldIn};
+ghost use Rattle.channel.specs.Offers.{OffersApart, Offers, outcomeOf, isNew, isStored};
 
-// SHAPE by the relative code; then the plain string.
-pub fn offer(row: Row, epoch: u32, s: &[u8]) -> Offered
+// An offer to a row: SHAPE, DAMAGED, IDLE and 5 to 9, and the row after it, counted by the answer.
+pub fn offer(mut row: Row, epoch: u32, s: &[u8]) -> Offered
     ensures { λ r. ⌜ Offers row epoch (now (s .entry)) r ⌝ }
 {
-    let mut plain = [0u8; 11];
-    let read = relative::from_relative(s, &mut plain);
-    match read {
-        Written::Refused(why) => refuse(row, why),
-        Written::Done => offer_plain(row, epoch, plain),
+    let mut all = row.strings;
+    let head = Head {
+        start: row.start,
+        present: row.present,
+    };
+    let moved = offer_apart(head, &mut all, epoch, s);
+    let after = moved.head;
+    let answer = moved.answer;
+    row.strings = all;
+    row.start = after.start;
+    row.present = after.present;
+    if is_built(answer) {
+        let record = first_four(all);
+        row.immediate = record;
+    }
+    let t = row.tallies;
+    row.tallies = count(t, answer);
+    Offered { row, answer }
+}
+
+// An offer to a row that is taken apart: its strings where they lie, and its numbers.
+fn offer_apart(head: Head, all: &mut [u8], epoch: u32, s: &[u8]) -> Moved
+    requires { ⌜ length (now all) ≡ 165 ⌝ }
+    ensures { λ r. ⌜ OffersApart (heldIn head (now (all .entry))) epoch (now (s .entry)) (r .answer) (heldIn (r .head) (now (all .exit))) ⌝ }
+{
+    let mut whole = [0u8; 11];
+    let heard = hear(s, &mut whole);
+    match heard {
+        Checked::Refused(why) => Moved {
+            head,
+            answer: Answer::Refused(why),
+        },
+        Checked::Taken(v) => place(head, all, epoch, &whole, v),
     }
 }
 
-// DAMAGED and IDLE by the check; then the string as the check leaves it is placed.
-fn offer_plain(row: Row, epoch: u32, s: [u8; 11]) -> Offered
-    requires { ⌜ misshapen s ≡ false ⌝ }
-    ensures { λ r. ⌜ OffersPlain row epoch (numberOf s) r ⌝ }
+// The tallies, moved by what an answer counts as.
+fn count(t: Tallies, a: Answer) -> Tallies
+    ensures { λ r. ⌜ r ≡ afterOffer (outcomeOf a) t ⌝ }
 {
-    let mut whole = [0u8; 11];
-    let checked = strings::check(&s, &mut whole);
-    match checked {
-        Checked::Refused(why) => refuse(row, why),
-        Checked::Taken(v) => place(row, epoch, whole, v),
+    match a {
+        Answer::Refused(_) => count_refused(t),
+        Answer::Taken(_, v, _) => count_taken(t, v),
     }
 }
 

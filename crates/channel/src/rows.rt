@@ -1,10 +1,10 @@
 // A row's mask and bytes.
-use crate::Immediate;
 use crate::Row;
+use immediate::Immediate;
 use tallies::Tallies;
 ghost use mathlib.Core.Path.{_≡_};
 ghost use Prim.Native.Nat.{_≤_};
-ghost use Rattle.channel.specs.Row.{isPresent, holdsFrame, emptyRow, newFrame};
+ghost use Rattle.channel.specs.Row.{isPresent, holdsFrame, emptyRow};
 
 // A reset row.
 pub fn empty_row() -> Row
@@ -37,14 +37,4 @@ pub fn holds_frame(mask: u16) -> bool
     ensures { λ r. ⌜ r ≡ holdsFrame mask ⌝ }
 {
     mask % 32768 != 0
-}
-
-// A frame with no string yet. The record and the tallies stay.
-pub fn new_frame(mut row: Row, start: u32) -> Row
-    ensures { λ r. ⌜ r ≡ newFrame row start ⌝ }
-{
-    row.strings = [0u8; 165];
-    row.start = start;
-    row.present = 0;
-    row
 }

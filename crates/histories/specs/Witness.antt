@@ -17,7 +17,8 @@ use Rattle.book.specs.Book.{inSlot, emptyBook, joined, joinedShown}
 use Rattle.channel.specs.declared.Row.{Row}
 use Rattle.tallies.specs.declared.Tallies.{Tallies}
 use Rattle.tallies.specs.Tallies.{oneMore}
-use Rattle.channel.specs.Row.{isPresent, holdsFrame, hasRecord, emptyRow, newFrame, stored, recorded, counted}
+use Rattle.immediate.specs.Kept.{hasRecord}
+use Rattle.channel.specs.Row.{isPresent, holdsFrame, emptyRow, newFrame, stored, heldWith, counted}
 use Rattle.channel.specs.Offers.{takenRow}
 use Rattle.shows.specs.Shows.{frameBy, brought}
 use Rattle.channel.specs.History.{Reset as ResetIt, heldAfter}
@@ -231,7 +232,7 @@ pub record Witness : Type 0 where
   pub record-channel : answerOf (recordTests goodEntry 24) [] ≡ 1 ∷ []
 
 pub witness : Witness
-unfolding whole inBytes sent sentDamaged one two three four five six1 seven fourteen fifteen six2 sixAbove sixGood fiveNext twoIll damaged numberOf paddingOf misshapen wordOf flip stringBytes readRelative writeRelative position sumC sumAll syndrome howMany highest placed judge ruling mended sumsMade encode layout valuesOf firstBad entryOf greater isGood dayOf isShown threeOf shownBy emptyBook joined joinedShown oneMore isPresent holdsFrame hasRecord emptyRow newFrame stored recorded counted takenRow frameBy brought heldAfter freshStation noRow stationAfter stationReset judged healthBy callsOn saidAfter stationOf half entry twoFrames twoChannels greaterLast greaterFirst tiedRows tiedBook nextDay sixLast recordAlone goodEntry illEntry illRecord
+unfolding whole inBytes sent sentDamaged one two three four five six1 seven fourteen fifteen six2 sixAbove sixGood fiveNext twoIll damaged numberOf paddingOf misshapen wordOf flip stringBytes readRelative writeRelative position sumC sumAll syndrome howMany highest placed judge ruling mended sumsMade encode layout valuesOf firstBad entryOf greater isGood dayOf isShown threeOf shownBy emptyBook joined joinedShown oneMore isPresent holdsFrame hasRecord emptyRow newFrame stored heldWith counted takenRow frameBy brought heldAfter freshStation noRow stationAfter stationReset judged healthBy callsOn saidAfter stationOf half entry twoFrames twoChannels greaterLast greaterFirst tiedRows tiedBook nextDay sixLast recordAlone goodEntry illEntry illRecord
 witness =
     record {
       six2-sent = refl;

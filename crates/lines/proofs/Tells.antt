@@ -1,7 +1,7 @@
 -- The line of a record is the paper's, from what an offer promises (lists-by), and no second one fits (lists-once).
 -- Assumes nothing.
 use mathlib.Core.Path.{_≡_, refl, sym, ap, ap₂, subst, _∙_}
-use mathlib.Core.Bool.{Bool, true, false, not, _&&_}
+use mathlib.Core.Bool.{Bool, true, false}
 use mathlib.Core.List.{List, [], _∷_}
 use Prim.Native.Nat.{ℕ, zero, suc}
 use native.Mathlib.Omega.{arith}
@@ -14,8 +14,6 @@ use Rattle.strings.specs.declared.Refusal.{Refusal}
 use Rattle.strings.specs.declared.Refusal.the-variants.{Channel, Shape, Damaged, Idle, Number, Early, Stale, OffBeat, Conflict, Range, Place, Room, Nothing, Slot}
 use Rattle.strings.specs.declared.Verdict.{Verdict}
 use Rattle.strings.specs.declared.Verdict.the-variants.{Clean, Repaired}
-use Rattle.strings.specs.declared.hamming.Ruling.{Ruling}
-use Rattle.strings.specs.declared.hamming.Ruling.the-variants.{Sound, Damaged as DAMAGED}
 use Rattle.strings.specs.Number.{valueOf, misshapen}
 use Rattle.strings.specs.Hamming.{ruling, isDamaged}
 use Rattle.strings.specs.Numbers.{refusalPaper, Test, test, firstOf, placeOf, saidBy, answerOf}
@@ -25,7 +23,8 @@ use Rattle.channel.specs.declared.News.{News}
 use Rattle.channel.specs.declared.Answer.{Answer}
 use Rattle.channel.specs.declared.Answer.the-variants.{Taken, Refused}
 use Rattle.channel.specs.Frame.{placeTests, newsOf}
-use Rattle.channel.specs.Offers.{answerPaper, verdictOf, plainOf, wholeOf}
+use Rattle.hearing.specs.Hears.{plainOf, wholeOf, verdictIn}
+use Rattle.channel.specs.Offers.{answerPaper}
 use Rattle.channel.proofs.HeldFrame.{first-said}
 use Rattle.station.specs.declared.Station.{Station}
 use Rattle.station.specs.declared.Stepped.{Stepped}
@@ -35,7 +34,7 @@ use Rattle.lines.specs.declared.Line.{Line}
 use Rattle.lines.specs.declared.Listed.{Listed}
 use Rattle.seen.specs.declared.seeing.Seen.{Seen}
 use Rattle.lines.specs.Line.{channelIn, epochIn, symbolsIn, beforeVerdict, beforeNumber, repairedFor, mFor, lineFor, Lists}
-use Rattle.seen.specs.Seen.{bitIn, bitOn, seen, seenPlain, seenIn, comesBeforeVerdict, seenBy}
+use Rattle.seen.specs.Seen.{bitIn, seen, seenIn, comesBeforeVerdict, seenBy}
 
 -- the refusals before the verdict are the paper's 1..4
 comes-before : (q : Refusal) → comesBeforeVerdict q ≡ isOneOf beforeVerdict (getD (refusalPaper q) 0 0)
@@ -62,7 +61,7 @@ nineTests a b c d e f g h i =
 -- whichever of the nine fits first: what is seen again is what the paper tells. At NUMBER m is 0
 seen-again : (a b c d e f g h i : Bool) (bit m : ℕ) → (e ≡ true → m ≡ 0)
     → let k = firstOf (nineTests a b c d e f g h i) in
-    pick (isOneOf beforeVerdict k) (seen 0 0) (pick b (seen 0 0) (pick (not c && not d) (seen bit m) (seen 0 0)))
+    pick (isOneOf beforeVerdict k) (seen 0 0) (pick (eqb (firstOf (test 2 b ∷ test 3 c ∷ test 4 d ∷ [])) 0) (seen bit m) (seen 0 0))
     ≡ seen (pick (isOneOf beforeVerdict k) 0 bit) (pick (isOneOf beforeNumber k) 0 m)
 seen-again true b c d e f g h i bit m z = refl
 seen-again false true c d e f g h i bit m z = refl
@@ -80,10 +79,6 @@ told-bit : (m : ℕ) (v : Verdict) (w : News) → getD (answerPaper (Taken m v w
 told-bit m Clean w = refl
 told-bit m (Repaired i) w = refl
 
-ruled-bit : (x : Ruling) → bitIn (verdictOf x) ≡ bitOn x
-ruled-bit (Sound v) = refl
-ruled-bit (DAMAGED d) = refl
-
 -- ---- what is seen by an answer is what the paper tells
 module _ (st : Station) (c epoch : ℕ) (s : List ℕ) where
   abbrev tests : List Test
@@ -96,20 +91,19 @@ module _ (st : Station) (c epoch : ℕ) (s : List ℕ) where
       → seen (bitIn v) m ≡ told k
   seen-taken m v w zero e =
       let n = wholeOf s in
-      let x = ruling (plainOf s) in
       ap₂ seen
-      (sym (told-bit m v w) ∙ ap (λ (l : List ℕ). getD l 3 0) e ∙ told-bit (numberIn n) (verdictOf x) (newsOf (heldAt st c) epoch n) ∙ ruled-bit x)
+      (sym (told-bit m v w) ∙ ap (λ (l : List ℕ). getD l 3 0) e ∙ told-bit (numberIn n) (verdictIn s) (newsOf (heldAt st c) epoch n))
       (ap (λ (l : List ℕ). getD l 1 0) e)
   seen-taken m v w (suc k) e = let z : _≡_ {A = ℕ} 0 (suc k) = ap (λ (l : List ℕ). getD l 0 0) e in absurd (omega arith)
 
   seen-refused : (q : Refusal) → getD (refusalPaper q) 0 0 ≡ firstOf tests → seenBy (Refused q) s ≡ told (firstOf tests)
-  unfolding seenBy seenIn seenPlain
+  unfolding seenBy seenIn
   seen-refused q e =
       let n = wholeOf s in
       let x = ruling (plainOf s) in
       let fit : ℕ → Bool = λ j. getD (placeTests (heldAt st c) epoch n) j (test 0 false) .fits in
       ap (λ (t : Bool). pick t (seen 0 0) (seenIn s)) (comes-before q ∙ ap (isOneOf beforeVerdict) e)
-      ∙ seen-again (isNoChannel c) (misshapen s) (isDamaged x) (isIdle n) (fit 0) (fit 1) (fit 2) (fit 3) (fit 4) (bitOn x) (numberIn n) (eqb-true (numberIn n) 0)
+      ∙ seen-again (isNoChannel c) (misshapen s) (isDamaged x) (isIdle n) (fit 0) (fit 1) (fit 2) (fit 3) (fit 4) (bitIn (verdictIn s)) (numberIn n) (eqb-true (numberIn n) 0)
 
   -- an answer's number is that of the first test that fits
   pub number-is : (r : Stepped) → OffersTo st c epoch s r → getD (answerPaper (r .answer)) 0 0 ≡ firstOf tests

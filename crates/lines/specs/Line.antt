@@ -6,11 +6,10 @@ use mathlib.Core.Path.{_≡_}
 use lib.ListN.{getD, take, drop}
 use Rattle.strings.specs.Pick.{pick}
 use Rattle.strings.specs.Number.{valueOf}
-use Rattle.strings.specs.Hamming.{ruling}
 use Rattle.strings.specs.Numbers.{firstOf}
 use Rattle.words.specs.Calls.{numberIn}
-use Rattle.channel.specs.Offers.{plainOf, wholeOf}
-use Rattle.seen.specs.Seen.{bitOn}
+use Rattle.hearing.specs.Hears.{wholeOf, verdictIn}
+use Rattle.seen.specs.Seen.{bitIn}
 use Rattle.station.specs.declared.Station.{Station}
 use Rattle.station.specs.Station.{stationTests, stationAfter}
 use Rattle.station.specs.History.{isOneOf}
@@ -36,7 +35,7 @@ abbrev pub beforeVerdict : List ℕ
 beforeVerdict = 1 ∷ 2 ∷ 3 ∷ 4 ∷ []
 
 abbrev pub repairedFor : ℕ → List ℕ → ℕ
-repairedFor number s = pick (isOneOf beforeVerdict number) 0 (bitOn (ruling (plainOf s)))
+repairedFor number s = pick (isOneOf beforeVerdict number) 0 (bitIn (verdictIn s))
 
 -- ---- "m (0 for 1..5)", of the string as the check leaves it
 abbrev pub beforeNumber : List ℕ

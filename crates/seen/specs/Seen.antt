@@ -1,52 +1,42 @@
 -- What the code finds out of a string for its line: from the answer where it is taken, else by reading and checking it again.
 -- Assumes nothing.
 use Prim.Native.Nat.{ℕ}
-use mathlib.Core.Bool.{Bool, true, false, not, _&&_}
+use mathlib.Core.Bool.{Bool, true, false}
 use mathlib.Core.List.{List}
+use lib.Dec.{eqb}
 use Rattle.strings.specs.Pick.{pick}
 use Rattle.strings.specs.declared.Refusal.{Refusal}
-use Rattle.strings.specs.declared.Refusal.the-variants.{Channel, Shape, Damaged as DAMAGED, Idle, Number, Early, Stale, OffBeat, Conflict, Range, Place, Room, Nothing, Slot}
+use Rattle.strings.specs.declared.Refusal.the-variants.{Channel, Shape, Damaged, Idle, Number, Early, Stale, OffBeat, Conflict, Range, Place, Room, Nothing, Slot}
 use Rattle.strings.specs.declared.Verdict.{Verdict}
 use Rattle.strings.specs.declared.Verdict.the-variants.{Clean, Repaired}
-use Rattle.strings.specs.declared.hamming.Ruling.{Ruling}
-use Rattle.strings.specs.declared.hamming.Ruling.the-variants.{Sound, Damaged}
-use Rattle.strings.specs.Number.{misshapen}
-use Rattle.strings.specs.Hamming.{ruling, isDamaged, mended}
-use Rattle.strings.specs.Calls.{isIdle}
+use Rattle.strings.specs.Numbers.{firstOf}
 use Rattle.words.specs.Calls.{numberIn}
 use Rattle.channel.specs.declared.Answer.{Answer}
 use Rattle.channel.specs.declared.Answer.the-variants.{Taken, Refused}
-use Rattle.channel.specs.Offers.{plainOf}
+use Rattle.hearing.specs.Hears.{wholeOf, verdictIn, hearTests}
 use Rattle.seen.specs.declared.seeing.Seen.{Seen}
 
--- the bit of a verdict, and of the check's ruling: 0 if none
+-- the bit of a verdict: 0 if none
 abbrev pub bitIn : Verdict → ℕ
 bitIn Clean = 0
 bitIn (Repaired i) = i
 
-abbrev pub bitOn : Ruling → ℕ
-bitOn (Sound v) = bitIn v
-bitOn (Damaged d) = 0
-
 abbrev pub seen : ℕ → ℕ → Seen
 seen bit m = record { repaired = bit; m = m }
 
--- the check takes the plain string
-abbrev pub isSound : ℕ → Bool
-isSound x = not (isDamaged (ruling x)) && not (isIdle (mended x))
+-- 2, 3 and 4 let the string pass
+abbrev pub isHeard : List ℕ → Bool
+isHeard s = eqb (firstOf (hearTests s)) 0
 
--- of one that it refuses, nothing is seen
-unfoldable pub seenPlain : ℕ → Seen
-seenPlain x = pick (isSound x) (seen (bitOn (ruling x)) (numberIn (mended x))) (seen 0 0)
-
+-- of one that they refuse, nothing is seen
 unfoldable pub seenIn : List ℕ → Seen
-seenIn s = pick (misshapen s) (seen 0 0) (seenPlain (plainOf s))
+seenIn s = pick (isHeard s) (seen (bitIn (verdictIn s)) (numberIn (wholeOf s))) (seen 0 0)
 
 -- 1 to 4, by cases
 abbrev pub comesBeforeVerdict : Refusal → Bool
 comesBeforeVerdict Channel = true
 comesBeforeVerdict Shape = true
-comesBeforeVerdict DAMAGED = true
+comesBeforeVerdict Damaged = true
 comesBeforeVerdict Idle = true
 comesBeforeVerdict Number = false
 comesBeforeVerdict Early = false

@@ -2,16 +2,14 @@
 // tells them; a refusal carries its number alone, so the string of a refused one is read and checked
 // again.
 use channel::Answer;
+use hearing::hear;
 use strings::Checked;
 use strings::Refusal;
 use strings::Verdict;
-use strings::Written;
 ghost use mathlib.Core.Path.{_≡_};
-ghost use mathlib.Core.Bool.{false};
 ghost use lib.ListN.{getD};
-ghost use Rattle.strings.specs.Number.{numberOf, misshapen};
 ghost use Rattle.channel.specs.Offers.{answerPaper};
-ghost use Rattle.seen.specs.Seen.{bitIn, seen, seenPlain, seenIn, comesBeforeVerdict, seenBy};
+ghost use Rattle.seen.specs.Seen.{bitIn, seen, seenIn, comesBeforeVerdict, seenBy};
 
 pub struct Seen {
     pub repaired: u8,
@@ -73,25 +71,13 @@ fn comes_before_verdict(why: Refusal) -> bool
     }
 }
 
-// What reading and checking a string shows.
+// What is heard of a string shows both.
 fn see(s: &[u8]) -> Seen
     ensures { λ r. ⌜ r ≡ seenIn (now (s .entry)) ⌝ }
 {
-    let mut plain = [0u8; 11];
-    let read = relative::from_relative(s, &mut plain);
-    match read {
-        Written::Refused(_) => nothing(),
-        Written::Done => see_plain(plain),
-    }
-}
-
-fn see_plain(s: [u8; 11]) -> Seen
-    requires { ⌜ misshapen s ≡ false ⌝ }
-    ensures { λ r. ⌜ r ≡ seenPlain (numberOf s) ⌝ }
-{
     let mut whole = [0u8; 11];
-    let checked = strings::check(&s, &mut whole);
-    match checked {
+    let heard = hear(s, &mut whole);
+    match heard {
         Checked::Refused(_) => nothing(),
         Checked::Taken(v) => Seen {
             repaired: bit_in(v),

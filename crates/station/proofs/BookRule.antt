@@ -22,7 +22,8 @@ use Rattle.book.proofs.Order.{meaning-entry, entry-meaning}
 use Rattle.book.proofs.Joins.{Full, empty-full, empty-slot, shown-fits}
 use Rattle.channel.specs.Frame.{Frame, isHere, afterString}
 use Rattle.channel.specs.Row.{frameOf}
-use Rattle.channel.specs.Offers.{offerTests, wholeOf, offeredRow, storesIt}
+use Rattle.hearing.specs.Hears.{wholeOf}
+use Rattle.channel.specs.Offers.{offerTests, offeredRow, storesIt}
 use Rattle.shows.specs.Shows.{hasPair, shownAt, showsOf, brought}
 use Rattle.channel.specs.History.{Call as OnChannel, Offer as OfferIt, frameAfter, heldAfter}
 use Rattle.channel.proofs.HeldFrame.{held-is, frame-after, runs-long}

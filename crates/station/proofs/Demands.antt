@@ -22,8 +22,10 @@ use Rattle.book.proofs.Joins.{Full, empty-full}
 use Rattle.channel.specs.declared.Row.{Row}
 use Rattle.tallies.specs.declared.Tallies.{Tallies}
 use Rattle.channel.specs.Frame.{isHere}
-use Rattle.channel.specs.Row.{frameOf, hasRecord, recordOf, keptFour, emptyRow}
-use Rattle.channel.specs.Offers.{isTaken, OnlyCounted, wholeOf, offeredRow, storesIt}
+use Rattle.immediate.specs.Kept.{hasRecord, recordOf, keptFour}
+use Rattle.channel.specs.Row.{frameOf, emptyRow}
+use Rattle.hearing.specs.Hears.{wholeOf}
+use Rattle.channel.specs.Offers.{isTaken, OnlyCounted, offeredRow, storesIt}
 use Rattle.shows.specs.Shows.{showsOf, brought}
 use Rattle.channel.specs.History.{recordAfter}
 use Rattle.channel.specs.Relock.{Heard, FirstOf15, NothingElse, Once, GoodTaken}

@@ -19,7 +19,8 @@ use Rattle.channel.specs.declared.News.{News}
 use Rattle.channel.specs.declared.Answer.{Answer}
 use Rattle.channel.specs.declared.Answer.the-variants.{Taken, Refused}
 use Rattle.channel.specs.Frame.{newsOf}
-use Rattle.channel.specs.Offers.{answerPaper, toldAs, verdictOf, plainOf, wholeOf}
+use Rattle.hearing.specs.Hears.{verdictOf, plainOf, wholeOf}
+use Rattle.channel.specs.Offers.{answerPaper, toldAs}
 use Rattle.station.specs.declared.Station.{Station}
 use Rattle.station.specs.Station.{heldAt, isNoChannel, stationTests, toldIn, stationAfter, OffersTo, stationReset, Resets}
 use Rattle.station.specs.History.{Call, Offer, Reset, Runs, fresh, offering, resetting, stationOf}

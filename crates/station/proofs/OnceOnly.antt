@@ -10,7 +10,7 @@ use Rattle.strings.specs.Calls.{writtenPaper}
 use Rattle.strings.proofs.Answer.{written-same, exactly}
 use Rattle.channel.specs.declared.Answer.{Answer}
 use Rattle.channel.specs.Offers.{answerPaper}
-use Rattle.channel.proofs.OnceOnly.{answer-same}
+use Rattle.channel.proofs.Answers.{answer-same}
 use Rattle.station.specs.declared.Station.{Station}
 use Rattle.station.specs.declared.Stepped.{Stepped}
 use Rattle.station.specs.declared.Emptied.{Emptied}

@@ -8,9 +8,8 @@ use lib.Dec.{eqb}
 use lib.ListN.{getD}
 use Rattle.strings.specs.Pick.{pick}
 use Rattle.strings.specs.Numbers.{test, firstOf, leftBy, Exactly}
-use Rattle.strings.proofs.Answer.{refusal-same, exactly}
+use Rattle.strings.proofs.Answer.{refusal-same, not-taken, exactly}
 use Rattle.tallies.specs.declared.Tallies.{Tallies}
-use Rattle.channel.proofs.OfferAnswers.{not-taken}
 use Rattle.station.specs.declared.Station.{Station}
 use Rattle.station.specs.declared.Health.{Health}
 use Rattle.station.specs.declared.Health.the-variants.{Unknown, Usable, NotUsable}

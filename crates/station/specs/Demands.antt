@@ -12,7 +12,7 @@ use Rattle.strings.specs.Calls.{writtenPaper}
 use Rattle.book.specs.Entry.{Three, meaning}
 use Rattle.book.specs.Book.{inSlot}
 use Rattle.tallies.specs.Tallies.{isOffer, isClean, isRepaired, isRefused, limit, howMany}
-use Rattle.channel.specs.Row.{recordOf}
+use Rattle.immediate.specs.Kept.{recordOf}
 use Rattle.channel.specs.Offers.{answerPaper, isTaken, OnlyCounted}
 use Rattle.channel.specs.History.{heldAfter, outcomes, recordAfter}
 use Rattle.channel.specs.Relock.{Heard, FirstOf15, NothingElse, Once, GoodTaken}

@@ -16,6 +16,7 @@ use Rattle.strings.specs.Numbers.{firstOf, answerOf}
 use Rattle.strings.specs.Known.{A, zeros, a, known as strings-known}
 use Rattle.relative.specs.Known.{B, inverseB, known as relative-known}
 use Rattle.records.specs.declared.kinds.Kind.{Kind}
+use Rattle.words.specs.declared.table.Form.the-variants.{Carrier}
 use Rattle.words.specs.Layout.{word}
 use Rattle.words.specs.Calls.{readTests}
 use Rattle.words.specs.Values.{valueIn, inRange}
@@ -60,10 +61,10 @@ pub record KnownStrings : Type 0 where
   pub least : signedAt 16 0b11111 ≡ negsuc 14
   pub greatest : signedAt 16 0b01111 ≡ pos 15
   -- "H 31, 25: -1, -7; 14 and 24: RANGE."
-  pub H-31 : valueIn (word 6 14 10) 31 ≡ negsuc 0
-  pub H-25 : valueIn (word 6 14 10) 25 ≡ negsuc 6
-  pub H-14 : inRange (word 6 14 10) (valueIn (word 6 14 10) 14) ≡ false
-  pub H-24 : inRange (word 6 14 10) (valueIn (word 6 14 10) 24) ≡ false
+  pub H-31 : valueIn (word Carrier 14 10) 31 ≡ negsuc 0
+  pub H-25 : valueIn (word Carrier 14 10) 25 ≡ negsuc 6
+  pub H-14 : inRange (word Carrier 14 10) (valueIn (word Carrier 14 10) 14) ≡ false
+  pub H-24 : inRange (word Carrier 14 10) (valueIn (word Carrier 14 10) 24) ≡ false
   -- "N4 6, NA 1461 is day 8766; N4 7, NA 1 is 8767."
   pub last-day : dayOf 6 1461 ≡ 8766
   pub next-day : dayOf 7 1 ≡ 8767

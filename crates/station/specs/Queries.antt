@@ -14,9 +14,9 @@ use Rattle.book.specs.declared.Entry.{Entry}
 use Rattle.book.specs.declared.Book.{Book}
 use Rattle.book.specs.Entry.{Three, meaning}
 use Rattle.book.specs.Book.{inSlot}
-use Rattle.channel.specs.declared.Immediate.{Immediate}
+use Rattle.immediate.specs.declared.Immediate.{Immediate}
 use Rattle.tallies.specs.declared.Tallies.{Tallies}
-use Rattle.channel.specs.Row.{hasRecord}
+use Rattle.immediate.specs.Kept.{hasRecord}
 use Rattle.station.specs.declared.Station.{Station}
 use Rattle.station.specs.declared.Health.{Health}
 use Rattle.station.specs.declared.Health.the-variants.{Unknown, Usable, NotUsable}

@@ -17,7 +17,8 @@ use Rattle.channel.specs.declared.Row.{Row}
 use Rattle.tallies.specs.Tallies.{noneCounted}
 use Rattle.channel.specs.Frame.{Frame}
 use Rattle.channel.specs.Row.{frameOf, emptyRow}
-use Rattle.channel.specs.Offers.{answerPaper, toldOf, verdictOf, plainOf, wholeOf, offerTests, offeredRow, storesIt}
+use Rattle.hearing.specs.Hears.{verdictOf, plainOf, wholeOf}
+use Rattle.channel.specs.Offers.{answerPaper, toldOf, offerTests, offeredRow, storesIt}
 use Rattle.shows.specs.Shows.{showsOf, brought}
 use Rattle.station.specs.declared.Station.{Station}
 use Rattle.station.specs.declared.Stepped.{Stepped}

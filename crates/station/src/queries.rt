@@ -7,8 +7,8 @@ use crate::Station;
 use crate::TalliesFound;
 use book::Book;
 use book::entry_in;
-use channel::Immediate;
-use channel::has_record;
+use immediate::Immediate;
+use immediate::has_record;
 use strings::Refusal;
 use words::immediate_words;
 use words::word_in;
@@ -102,7 +102,7 @@ fn health_by(kept: Immediate, b: Book) -> Health
 }
 
 // By the top bit of B, and by C, the top bit of the entry's even half.
-fn judge(bad: u64, etop: u8) -> Health
+fn judge(bad: u32, etop: u8) -> Health
     ensures { λ r. ⌜ r ≡ judged bad (etop / 128 % 2) ⌝ }
 {
     if bad == 0 {

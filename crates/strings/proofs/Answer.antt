@@ -1,7 +1,7 @@
 -- How a call's answer follows from its tests; that no second answer fits; and that each number is given exactly where it belongs.
 -- Assumes nothing.
 use mathlib.Core.Path.{_≡_, refl, _∙_, sym, ap, subst}
-use mathlib.Core.Bool.{Bool, true, false, not, _&&_, _||_}
+use mathlib.Core.Bool.{Bool, true, false, not, _&&_, _||_, true≢false}
 use mathlib.Core.List.{List, [], _∷_}
 use Prim.Native.Nat.{ℕ, zero, suc, _<_, suc-le-suc}
 use native.Mathlib.Nat.{le-of-suc-le-suc, not-suc-le-zero, zero-lt-suc}
@@ -68,6 +68,10 @@ refusal-known Slot = (refl, refl)
 
 pub refusal-same : (r q : Refusal) → refusalPaper r ≡ refusalPaper q → r ≡ q
 refusal-same r q e = sym (refusal-known r .0) ∙ ap refusalOf e ∙ refusal-known q .0
+
+-- no refusal is told as a taken call is
+pub not-taken : (q : Refusal) (told : List ℕ) → refusalPaper q ≡ 0 ∷ told → ⊥
+not-taken q told e = true≢false (ap (λ (l : List ℕ). eqb (getD l 0 0) 0) (sym e) ∙ refusal-known q .1)
 
 abbrev verdictOf : List ℕ → Verdict
 verdictOf l = pick (eqb (getD l 0 0) 0) Clean (Repaired (getD l 1 0))

@@ -1,8 +1,10 @@
 pub mod EveryKind
+pub mod Forms
 pub mod Sign
 pub mod WordBits
 pub mod Rows
 pub mod Carrying
+pub mod Fits
 pub mod Trip
 pub mod RecordLists
 pub mod ReadAnswers

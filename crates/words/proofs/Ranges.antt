@@ -8,7 +8,7 @@ use mathlib.Core.Logic.{_↔_, _⊎_, inl, inr, ⊎-elim}
 use Prim.Native.Nat.{ℕ, zero, suc, _+_, _-_, _*_, _/_, _%_, _^_, _≤_, _<_, suc-le-suc}
 use native.Mathlib.Nat.{le-of-suc-le-suc, not-suc-le-zero, zero-lt-suc, lt-of-lt-of-le}
 use native.Mathlib.Omega.{arith}
-use borrow.Author.Tests.{lt-ltb, le-leb, leb-true, not-true, eqb-true, eqb-false, ltb-true, ltb-false}
+use borrow.Author.Tests.{lt-ltb, le-leb, not-true, eqb-false, ltb-true, ltb-false}
 use lib.Dec.{T, eqb, leb, ltb, lit<, eqb→eq}
 use lib.IntN.{ℤ, pos, negsuc, negℤ, natAbs, sucℤ, predℤ}
 use lib.ListN.{length, getD}
@@ -21,6 +21,8 @@ use Rattle.strings.specs.Number.{numberOf, misshapen, wordOf}
 use Rattle.strings.specs.Hamming.{ruling, isDamaged, mended}
 use Rattle.strings.specs.Calls.{noRoom, isIdle}
 use Rattle.strings.proofs.Below.{and-left, and-right, below, below-at, unfit}
+use Rattle.words.specs.declared.table.Form.{Form}
+use Rattle.words.specs.declared.table.Form.the-variants.{Plain, Signed, Time, Interval, Day, Slot, Carrier}
 use Rattle.words.specs.declared.table.Word.{Word}
 use Rattle.records.specs.declared.kinds.Kind.{Kind}
 use Rattle.records.specs.declared.kinds.Kind.the-variants.{One, Two, Three, Four, Five, Even, Odd, Fourteen}
@@ -28,14 +30,16 @@ use Rattle.records.specs.declared.named.Record.{Record}
 use Rattle.words.specs.declared.reading.Reading.the-variants.{Refused}
 use Rattle.words.specs.Layout.{layout, none, word, ofKind}
 use Rattle.words.specs.Signed.{signedAt}
-use Rattle.words.specs.Values.{valueIn, leastOf, mostOf, isTime, inRange, valuesOf, firstBad}
+use Rattle.words.specs.Values.{valueIn, leastOf, mostOf, isTime, isTk, inRange, valuesOf, firstBad}
 use Rattle.records.specs.Records.{kindOf, listOf}
 use Rattle.words.specs.Calls.{numberIn, Reads, Writes}
 use Rattle.words.specs.Tidied.{wordAt, bitsIn}
 use Rattle.words.proofs.EveryKind.{kinds, every, every-kind}
+use Rattle.words.proofs.Forms.{and-all}
 use Rattle.words.proofs.WordBits.{word-lt}
 use Rattle.words.proofs.Rows.{layout-long}
-use Rattle.words.proofs.Trip.{and-both, is-true, sound-at, range-at, layout-laid, kind-values-long}
+use Rattle.words.proofs.Fits.{and-both, is-true, sound-at, range-at, layout-laid}
+use Rattle.words.proofs.Trip.{kind-values-long}
 use Rattle.words.proofs.RecordLists.{list-long}
 use Rattle.words.proofs.RoundTrips.{read-numbers, write-numbers}
 
@@ -119,27 +123,40 @@ signed-in half raw h l = by (ltb raw half) refl
     by true q = rw (minus-le-pos (half - 1) raw) (le-leb raw (half - 1) (omega (arith, ltb-true raw half q)))
     by false q = rw (minus-le (half - 1) (raw - half) (omega (arith, ltb-false raw half q))) (minus-le-pos (raw - half) (half - 1))
 
+abbrev isFree : Form → Bool
+isFree Plain = true
+isFree Signed = true
+isFree Time = false
+isFree Interval = false
+isFree Day = false
+isFree Slot = false
+isFree Carrier = false
+
 module _ (t l raw : ℕ) (h : raw < 2 ^ (t + 1 - l)) where
-  plain-in : inRange (word 0 t l) (valueIn (word 0 t l) raw) ≡ true
+  plain-in : inRange (word Plain t l) (valueIn (word Plain t l) raw) ≡ true
   plain-in = rw (le-leb 0 raw (omega arith), le-leb raw (2 ^ (t + 1 - l) - 1) (omega arith))
 
-  sign-in : inRange (word 1 t l) (valueIn (word 1 t l) raw) ≡ true
+  sign-in : inRange (word Signed t l) (valueIn (word Signed t l) raw) ≡ true
   sign-in =
       let e : 2 ^ suc (t - l) ≡ 2 ^ (t - l) + 2 ^ (t - l) = omega arith in
       let u : raw < 2 ^ (t - l) + 2 ^ (t - l) = rw (← e) (lt-of-lt-of-le h (pow-mono {i = t + 1 - l} {j = suc (t - l)} (omega arith))) in
       rw (signed-in (2 ^ (t - l)) raw (pow-pos (t - l)) u)
 
-  form-in : (f : ℕ) → leb f 1 ≡ true → inRange (word f t l) (valueIn (word f t l) raw) ≡ true
-  form-in zero e = plain-in
-  form-in (suc zero) e = sign-in
-  form-in (suc (suc f)) e = absurd (omega (arith, leb-true (suc (suc f)) 1 e))
+  form-in : (f : Form) → isFree f ≡ true → inRange (word f t l) (valueIn (word f t l) raw) ≡ true
+  form-in Plain e = plain-in
+  form-in Signed e = sign-in
+  form-in Time e = absurd (true≢false (sym e))
+  form-in Interval e = absurd (true≢false (sym e))
+  form-in Day e = absurd (true≢false (sym e))
+  form-in Slot e = absurd (true≢false (sym e))
+  form-in Carrier e = absurd (true≢false (sym e))
 
 -- so the first bad word of what was read is the first of the other forms that is bad
 abbrev otherBad : ℕ → List Word → ℕ
 otherBad n [] = 0
-otherBad n (w ∷ ws) = pick (leb (w .form) 1) (otherBad n ws) (pick (inRange w (valueIn w (bitsIn n w))) (otherBad n ws) (w .top))
+otherBad n (w ∷ ws) = pick (isFree (w .form)) (otherBad n ws) (pick (inRange w (valueIn w (bitsIn n w))) (otherBad n ws) (w .top))
 
-other-by : (n : ℕ) (w : Word) (ws : List Word) (b : Bool) → leb (w .form) 1 ≡ b → firstBad ws (valuesOf n ws) ≡ otherBad n ws
+other-by : (n : ℕ) (w : Word) (ws : List Word) (b : Bool) → isFree (w .form) ≡ b → firstBad ws (valuesOf n ws) ≡ otherBad n ws
     → pick (inRange w (valueIn w (bitsIn n w))) (firstBad ws (valuesOf n ws)) (w .top) ≡ pick b (otherBad n ws) (pick (inRange w (valueIn w (bitsIn n w))) (otherBad n ws) (w .top))
 other-by n w ws true q ih = rw (form-in (w .top) (w .low) (bitsIn n w) (word-lt n (w .top) (w .low)) (w .form) q) ih
 other-by n w ws false q ih = rw ih
@@ -147,7 +164,7 @@ other-by n w ws false q ih = rw ih
 other-bad : (n : ℕ) (ws : List Word) → firstBad ws (valuesOf n ws) ≡ otherBad n ws
 unfolding firstBad valuesOf
 other-bad n [] = refl
-other-bad n (w ∷ ws) = other-by n w ws (leb (w .form) 1) refl (other-bad n ws)
+other-bad n (w ∷ ws) = other-by n w ws (isFree (w .form)) refl (other-bad n ws)
 
 -- "hour 0..23; minute 0..59; tb raw 1..95 (15 to 1425 minutes); NA 1..1461; nA 1..24; H 0..13, or 25..31": in the bits of a string
 abbrev pub readable : ℕ → Kind → Bool
@@ -183,14 +200,10 @@ said w f m t raw h = same _ _ (below-at m (λ raw. Bool·beq (inRange w (valueIn
     same false false t = refl
 
 -- tk and NA, by their ends
-and-all : (a : Bool) → (a && true) ≡ a
-and-all true = refl
-and-all false = refl
-
-time-said : (raw : ℕ) → raw < 4096 → inRange (word 2 76 65) (valueIn (word 2 76 65) raw) ≡ isTime raw
+time-said : (raw : ℕ) → raw < 4096 → inRange (word Time 76 65) (valueIn (word Time 76 65) raw) ≡ isTime raw
 time-said raw h = rw (le-leb 0 raw (omega arith), le-leb raw 4095 (omega arith))
 
-day-said : (raw : ℕ) → inRange (word 4 80 70) (valueIn (word 4 80 70) raw) ≡ (leb 1 raw && leb raw 1461)
+day-said : (raw : ℕ) → inRange (word Day 80 70) (valueIn (word Day 80 70) raw) ≡ (leb 1 raw && leb raw 1461)
 day-said raw = and-all (leb 1 raw && leb raw 1461)
 
 -- the hour and the minute in tk
@@ -211,7 +224,7 @@ reading-fails n One =
     ∙ ap (λ (b : Bool). pick b 0 76) (time-said (wordOf n 76 65) (word-lt n 76 65) ∙ ap₂ (λ (h m : ℕ). ltb h 24 && ltb m 60) (hour n) (minute n))
 reading-fails n Two =
     other-bad n (layout Two)
-    ∙ ap (λ (b : Bool). pick b 0 76) (said (word 3 76 70) (λ raw. leb 1 raw && leb raw 95) 128 tt (wordOf n 76 70) (word-lt n 76 70))
+    ∙ ap (λ (b : Bool). pick b 0 76) (said (word Interval 76 70) (λ raw. leb 1 raw && leb raw 95) 128 tt (wordOf n 76 70) (word-lt n 76 70))
 reading-fails n Three = other-bad n (layout Three)
 reading-fails n Four = other-bad n (layout Four)
 reading-fails n Five =
@@ -219,10 +232,10 @@ reading-fails n Five =
     ∙ ap (λ (b : Bool). pick b 0 80) (day-said (wordOf n 80 70))
 reading-fails n Even =
     other-bad n (layout Even)
-    ∙ ap (λ (b : Bool). pick b 0 77) (said (word 5 77 73) (λ raw. leb 1 raw && leb raw 24) 32 tt (wordOf n 77 73) (word-lt n 77 73))
+    ∙ ap (λ (b : Bool). pick b 0 77) (said (word Slot 77 73) (λ raw. leb 1 raw && leb raw 24) 32 tt (wordOf n 77 73) (word-lt n 77 73))
 reading-fails n Odd =
     other-bad n (layout Odd)
-    ∙ ap (λ (b : Bool). pick b 0 14) (said (word 6 14 10) (λ raw. leb raw 13 || leb 25 raw) 32 tt (wordOf n 14 10) (word-lt n 14 10))
+    ∙ ap (λ (b : Bool). pick b 0 14) (said (word Carrier 14 10) (λ raw. leb raw 13 || leb 25 raw) 32 tt (wordOf n 14 10) (word-lt n 14 10))
 reading-fails n Fourteen = other-bad n (layout Fourteen)
 
 -- in short
@@ -315,27 +328,36 @@ same-z (negsuc a) (pos b) t = absurd t
 same-z (negsuc a) (negsuc b) t = ap negsuc (eqb→eq a b t)
 
 abbrev rangeTest : Word → Ends → Bool
-rangeTest w e = eqb (w .form) 2 || (sameZ (leastOf w) (e .least) && sameZ (mostOf w) (e .most))
+rangeTest w e = isTk (w .form) || (sameZ (leastOf w) (e .least) && sameZ (mostOf w) (e .most))
 
 all-ranges : T (every (λ k. below 8 (λ j. rangeTest (wordAt k j) (endAt k j))) kinds)
 unfolding layout
 all-ranges = tt
 
-range-by : (w : Word) (e : Ends) (z : ℤ) (b : Bool) → eqb (w .form) 2 ≡ b → (w .form ≡ 2 → ⊥) → T (b || (sameZ (leastOf w) (e .least) && sameZ (mostOf w) (e .most)))
+time-form : (f : Form) → isTk f ≡ true → f ≡ Time
+time-form Plain q = absurd (true≢false (sym q))
+time-form Signed q = absurd (true≢false (sym q))
+time-form Time q = refl
+time-form Interval q = absurd (true≢false (sym q))
+time-form Day q = absurd (true≢false (sym q))
+time-form Slot q = absurd (true≢false (sym q))
+time-form Carrier q = absurd (true≢false (sym q))
+
+range-by : (w : Word) (e : Ends) (z : ℤ) (b : Bool) → isTk (w .form) ≡ b → (w .form ≡ Time → ⊥) → T (b || (sameZ (leastOf w) (e .least) && sameZ (mostOf w) (e .most)))
     → ((leZ (leastOf w) z && leZ z (mostOf w)) && pick b (isTime (natAbs z)) true) ≡ (leZ (e .least) z && leZ z (e .most))
-range-by w e z true q h t = absurd (h (eqb-true (w .form) 2 q))
+range-by w e z true q h t = absurd (h (time-form (w .form) q))
 range-by w e z false q h t =
     let l = same-z (leastOf w) (e .least) (and-left (sameZ (leastOf w) (e .least)) _ t) in
     let m = same-z (mostOf w) (e .most) (and-right (sameZ (leastOf w) (e .least)) _ t) in
     and-all _ ∙ ap₂ (λ (a b : ℤ). leZ a z && leZ z b) l m
 
-pub range-is : (k : Kind) (j : ℕ) → j < 8 → (wordAt k j .form ≡ 2 → ⊥) → (z : ℤ) → inRange (wordAt k j) z ≡ (leZ (endAt k j .least) z && leZ z (endAt k j .most))
+pub range-is : (k : Kind) (j : ℕ) → j < 8 → (wordAt k j .form ≡ Time → ⊥) → (z : ℤ) → inRange (wordAt k j) z ≡ (leZ (endAt k j .least) z && leZ z (endAt k j .most))
 range-is k j l h z =
-    range-by (wordAt k j) (endAt k j) z (eqb (wordAt k j .form) 2) refl h
+    range-by (wordAt k j) (endAt k j) z (isTk (wordAt k j .form)) refl h
     (below-at 8 (λ j. rangeTest (wordAt k j) (endAt k j)) (every-kind (λ k. below 8 (λ j. rangeTest (wordAt k j) (endAt k j))) all-ranges k) j l)
 
 -- tk: "hour (5 bits), minute (6), half minute (1)", "hour 0..23; minute 0..59"
-pub record Time (z : ℤ) : Type 0 where
+pub record TimeOfDay (z : ℤ) : Type 0 where
   pub hours : ℕ
   pub minutes : ℕ
   pub halves : ℕ
@@ -344,10 +366,10 @@ pub record Time (z : ℤ) : Type 0 where
   pub halves-lt : halves < 2
   pub is : z ≡ pos (hours * 128 + minutes * 2 + halves)
 
-time-in : (t : ℕ) → t / 128 < 24 → t / 2 % 64 < 60 → inRange (word 2 76 65) (pos t) ≡ true
+time-in : (t : ℕ) → t / 128 < 24 → t / 2 % 64 < 60 → inRange (word Time 76 65) (pos t) ≡ true
 time-in t h m = rw (le-leb 0 t (omega arith), le-leb t 4095 (omega arith), lt-ltb (t / 128) 24 h, lt-ltb (t / 2 % 64) 60 m)
 
-time-of : (z : ℤ) → inRange (word 2 76 65) z ≡ true → Time z
+time-of : (z : ℤ) → inRange (word Time 76 65) z ≡ true → TimeOfDay z
 time-of (negsuc n) e = absurd (true≢false (sym e))
 time-of (pos t) e =
     let a = and-both (leb 0 t && leb t 4095) (isTime t) e in
@@ -362,12 +384,12 @@ time-of (pos t) e =
       is = ap pos (omega arith);
     }
 
-pub tk-is : (z : ℤ) → (inRange (wordAt One 1) z ≡ true) ↔ Time z
+pub tk-is : (z : ℤ) → (inRange (wordAt One 1) z ≡ true) ↔ TimeOfDay z
 unfolding layout
 tk-is z = (
   time-of z,
   (λ t. let x = t .hours * 128 + t .minutes * 2 + t .halves in
-      ap (inRange (word 2 76 65)) (t .is)
+      ap (inRange (word Time 76 65)) (t .is)
       ∙ time-in x (omega (arith, t .hours-lt, t .minutes-lt, t .halves-lt)) (omega (arith, t .hours-lt, t .minutes-lt, t .halves-lt))),
 )
 

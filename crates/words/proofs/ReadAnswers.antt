@@ -10,17 +10,14 @@ use lib.ListN.{length}
 use borrow.Author.Tests.{ne-eqb}
 use Rattle.strings.specs.declared.Refusal.{Refusal}
 use Rattle.strings.specs.declared.Verdict.{Verdict}
-use Rattle.strings.specs.declared.Written.the-variants.{Done, Refused as NotWritten}
 use Rattle.strings.specs.declared.Checked.{Checked}
 use Rattle.strings.specs.declared.Checked.the-variants.{Taken, Refused as NotTaken}
-use Rattle.strings.specs.declared.hamming.Ruling.{Ruling}
-use Rattle.strings.specs.declared.hamming.Ruling.the-variants.{Sound, Damaged}
 use Rattle.strings.specs.Pick.{pick}
 use Rattle.strings.specs.Number.{numberOf, misshapen}
 use Rattle.strings.specs.Hamming.{ruling, isDamaged, mended}
 use Rattle.strings.specs.Numbers.{refusalPaper, verdictPaper, Test, firstOf, placeOf, saidBy, answerOf}
 use Rattle.strings.specs.Calls.{Checks, checkedPaper, verdictTold, stringTests, isIdle}
-use Rattle.strings.proofs.Answer.{checked-same, written-same, taken-made}
+use Rattle.strings.proofs.Answer.{not-taken, taken-made}
 use Rattle.strings.proofs.CheckRule.{check-numbers}
 use Rattle.strings.proofs.Below.{unfit}
 use Rattle.strings.proofs.Judge.{mended-lt}
@@ -72,18 +69,13 @@ module _ {n : ℕ} {k : Kind} where
     reads-no-more (t ∷ ts) us e = no-first (t .number) (t .place) (t .fits) ts (ts ++ us) (reads-no-more ts us) e
 
 -- ---- what the check says
--- no refusal is told as a taken check is
-not-taken : (q : Refusal) (r : Ruling) → refusalPaper q ≡ 0 ∷ verdictTold r → ⊥
-not-taken q (Sound v) e = let f = checked-same (NotTaken q) (Taken v) e in let z : _≡_ {A = ℕ} 0 1 = cc in omega arith
-not-taken q (Damaged d) e = let f = written-same (NotWritten q) Done e in let z : _≡_ {A = ℕ} 0 1 = cc in omega arith
-
 module _ (s out out′ : List ℕ) (k : Kind) (c : Checked) (room : length out ≡ 11) (a : Checks s out c out′) where
   -- the check refuses, and so does the reader
   pub refused-read : (q : Refusal) → c ≡ NotTaken q → Reads s k (Refused q)
   unfolding Reads Checks
   refused-read q e =
       let n = numberOf s in
-      reads-no-more q (verdictTold (ruling n)) (not-taken q (ruling n)) (stringTests s) (wordTests (mended n) k)
+      reads-no-more q (verdictTold (ruling n)) (not-taken q (verdictTold (ruling n))) (stringTests s) (wordTests (mended n) k)
       (rw (has-room out room) at (ap checkedPaper (sym e) ∙ a .answer))
 
   -- the check takes the string: the reader goes on with what the check left

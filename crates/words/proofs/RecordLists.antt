@@ -19,7 +19,7 @@ use Rattle.words.specs.Layout.{layout, kindNumber, ofKind}
 use Rattle.words.specs.Values.{valuesOf, firstBad, dataOf}
 use Rattle.records.specs.Records.{kindOf, listOf, recordOf}
 use Rattle.words.proofs.EveryKind.{kindAt, kind-back}
-use Rattle.words.proofs.Trip.{and-both, kind-data-lt}
+use Rattle.words.proofs.Fits.{and-both, kind-data-lt}
 
 -- ---- a record is its kind and the list of its values
 pub list-long : (r : Record) → length (listOf r) ≡ 8

@@ -46,7 +46,8 @@ use Rattle.words.specs.Calls.{numberIn, readTests, readingPaper, reading
 use Rattle.words.specs.Tidied.{wordAt, tidyWords, tidied, Tidy}
 use Rattle.words.proofs.RecordLists.{list-long, record-list, kind-same, of-kind}
 use Rattle.words.proofs.Rows.{layout-long, values-long}
-use Rattle.words.proofs.Trip.{layout-laid, and-both, kind-data-lt, kind-values, kind-values-same, data-values, data-lt, read-fit, bit-same, word-same, word-data, code-read, gap-data, sound-at}
+use Rattle.words.proofs.Fits.{and-both, data-lt, sound-at, layout-laid, kind-data-lt}
+use Rattle.words.proofs.Trip.{kind-values, kind-values-same, data-values, read-fit, bit-same, word-same, word-data, code-read, gap-data}
 
 -- ---- a reading is known by its numbers and its words
 pub reading-same : (q p : Reading) → readingPaper q ≡ readingPaper p → readingWords q ≡ readingWords p → q ≡ p

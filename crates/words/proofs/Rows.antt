@@ -1,71 +1,53 @@
--- The code's table of words against the layout, what holds of the word at each place, and loops over the places.
+-- What holds of the word at each place of the layout, and loops over the places.
 -- Assumes nothing.
-use mathlib.Core.Path.{_≡_, refl, sym, ap, ap₂, _∙_, subst}
-use mathlib.Core.Bool.{Bool, true, false, not, _&&_, _||_}
-use mathlib.Core.List.{List, [], _∷_, _++_}
-use Prim.Native.Nat.{ℕ, zero, suc, _+_, _-_, _*_, _/_, _%_, _^_, _≤_, _<_}
+use mathlib.Core.Path.{_≡_, refl, sym, ap, _∙_, subst}
+use mathlib.Core.Bool.{Bool, true, false, _&&_}
+use mathlib.Core.List.{List, [], _∷_}
+use Prim.Native.Nat.{ℕ, zero, suc, _+_, _-_, _*_, _/_, _^_, _≤_, _<_}
 use native.Mathlib.Nat.{le-of-suc-le-suc, not-suc-le-zero, mul-assoc}
 use native.Mathlib.Numerals.{add-one}
 use native.Mathlib.Omega.{arith}
+use lib.Arith.{lt-of-le-ne}
 use lib.Dec.{T, eqb, leb, ltb, eqb→eq, leb→le, ltb→lt}
 use lib.IntN.{ℤ, pos}
-use lib.ListN.{length, getD, take, drop, set}
+use lib.ListN.{length, getD, take, drop, set, replicate}
 use lib.Pow.{pow-add}
-use lib.Seq.{take-suc, take-suc-set, drop-cons}
-use borrow.Author.Tests.{eq-eqb, ne-eqb}
+use lib.Seq.{take-suc, take-suc-set, drop-cons, getD-drop}
 use Rattle.strings.specs.Pick.{pick}
 use Rattle.strings.specs.Number.{wordOf}
 use Rattle.strings.proofs.Below.{and-left, and-right, below, below-at}
+use Rattle.words.specs.declared.table.Form.{Form}
+use Rattle.words.specs.declared.table.Form.the-variants.{Plain, Signed, Time, Interval, Day, Slot, Carrier}
 use Rattle.words.specs.declared.table.Word.{Word}
 use Rattle.records.specs.declared.kinds.Kind.{Kind}
-use Rattle.records.specs.declared.kinds.Kind.the-variants.{One, Two, Three, Four, Five, Even, Odd, Fourteen}
-use Rattle.words.specs.Layout.{layout, none, word, Placed, kindNumber}
+use Rattle.words.specs.Layout.{layout, none, Placed}
 use Rattle.words.specs.Values.{valueIn, codeIn, inRange, valuesOf, firstBad, dataOf}
 use Rattle.words.proofs.EveryKind.{kinds, every, every-kind}
 
--- ---- a word as one number, and back
-abbrev packed : List Word → List ℕ
-packed [] = []
-packed (w ∷ ws) = (w .form * 10000 + w .top * 100 + w .low) ∷ packed ws
+-- ---- a word is placed, by tests
+-- that of its form: a signed word has a bit, any other has at most 21, H at most 5
+abbrev formTest : Form → ℕ → ℕ → Bool
+formTest Plain t l = ltb t (l + 21)
+formTest Signed t l = leb l t
+formTest Time t l = ltb t (l + 21)
+formTest Interval t l = ltb t (l + 21)
+formTest Day t l = ltb t (l + 21)
+formTest Slot t l = ltb t (l + 21)
+formTest Carrier t l = ltb t (l + 5)
 
-abbrev pub unpacked : ℕ → Word
-unpacked n = word (n / 10000 % 10) (n / 100 % 100) (n % 100)
-
--- the numbers that the code holds, one kind after the other
-unfoldable pub numbers : List ℕ
-unfolding layout
-numbers =
-    packed (layout One) ++ (packed (layout Two) ++ (packed (layout Three) ++ (packed (layout Four)
-    ++ (packed (layout Five) ++ (packed (layout Even) ++ (packed (layout Odd) ++ packed (layout Fourteen)))))))
-
--- ---- two words are the same, and a word is placed, by tests
-abbrev same : Word → Word → Bool
-same v w = eqb (v .form) (w .form) && (eqb (v .top) (w .top) && eqb (v .low) (w .low))
-
-same-word : (v w : Word) → T (same v w) → v ≡ w
-same-word v w t =
-    let u = and-right (eqb (v .form) (w .form)) _ t in
-    let e = eqb→eq (v .form) (w .form) (and-left (eqb (v .form) (w .form)) _ t) in
-    let f = eqb→eq (v .top) (w .top) (and-left (eqb (v .top) (w .top)) _ u) in
-    let g = eqb→eq (v .low) (w .low) (and-right (eqb (v .top) (w .top)) _ u) in
-    ap (λ (x : ℕ). word x (v .top) (v .low)) e ∙ ap₂ (λ (y z : ℕ). word (w .form) y z) f g
-
--- a word of form f passes the test b
-abbrev formTest : Word → ℕ → Bool → Bool
-formTest w f b = not (eqb (w .form) f) || b
-
-form-by : (w : Word) (f : ℕ) (b : Bool) → T (formTest w f b) → w .form ≡ f → T b
-form-by w f b t e = let q = eq-eqb (w .form) f e in rw q at t
-
-signless-by : (w : Word) (b : Bool) → T (eqb (w .form) 1 || b) → (w .form ≡ 1 → ⊥) → T b
-signless-by w b t e = let q = ne-eqb (w .form) 1 e in rw q at t
-
-abbrev signTest : Word → Bool
-signTest w =
-    formTest w 1 (leb (w .low) (w .top)) && ((eqb (w .form) 1 || ltb (w .top) (w .low + 21)) && formTest w 6 (ltb (w .top) (w .low + 5)))
+signless-by : (f : Form) (t l : ℕ) → T (formTest f t l) → (f ≡ Signed → ⊥) → t < l + 21
+signless-by Plain t l b n = ltb→lt _ _ b
+signless-by Signed t l b n = absurd (n refl)
+signless-by Time t l b n = ltb→lt _ _ b
+signless-by Interval t l b n = ltb→lt _ _ b
+signless-by Day t l b n = ltb→lt _ _ b
+signless-by Slot t l b n = ltb→lt _ _ b
+signless-by Carrier t l b n = let h = ltb→lt t (l + 5) b in omega arith
 
 abbrev placedTest : Word → Bool
-placedTest w = leb 1 (w .low) && (leb (w .low) (w .top + 1) && (leb (w .top) 80 && (ltb (w .top) (w .low + 32) && signTest w)))
+placedTest w =
+    leb 1 (w .low) && (leb (w .low) (w .top + 1) && (leb (w .top) 80 && (ltb (w .top) (w .low + 32)
+    && (leb ((85 - w .top) / 8) ((85 - w .low) / 8) && formTest (w .form) (w .top) (w .low)))))
 
 placed-by : (w : Word) → T (placedTest w) → Placed w
 placed-by w t =
@@ -73,43 +55,56 @@ placed-by w t =
     let b₂ = and-right (leb (w .low) (w .top + 1)) _ b₁ in
     let b₃ = and-right (leb (w .top) 80) _ b₂ in
     let b₄ = and-right (ltb (w .top) (w .low + 32)) _ b₃ in
-    let b₅ = and-right (formTest w 1 (leb (w .low) (w .top))) _ b₄ in
+    let b₅ = and-right (leb ((85 - w .top) / 8) ((85 - w .low) / 8)) _ b₄ in
     record {
       first = leb→le _ _ (and-left (leb 1 (w .low)) _ t);
       order = leb→le _ _ (and-left (leb (w .low) (w .top + 1)) _ b₁);
       high = leb→le _ _ (and-left (leb (w .top) 80) _ b₂);
       narrow = ltb→lt _ _ (and-left (ltb (w .top) (w .low + 32)) _ b₃);
-      sign = λ e. leb→le _ _ (form-by w 1 (leb (w .low) (w .top)) (and-left (formTest w 1 (leb (w .low) (w .top))) _ b₄) e);
-      signless = λ e. ltb→lt _ _ (signless-by w (ltb (w .top) (w .low + 21)) (and-left (eqb (w .form) 1 || ltb (w .top) (w .low + 21)) _ b₅) e);
-      carrier = λ e. ltb→lt _ _ (form-by w 6 (ltb (w .top) (w .low + 5)) (and-right (eqb (w .form) 1 || ltb (w .top) (w .low + 21)) _ b₅) e);
+      begun = leb→le _ _ (and-left (leb ((85 - w .top) / 8) ((85 - w .low) / 8)) _ b₄);
+      sign = λ e. leb→le _ _ (subst (λ (f : Form). T (formTest f (w .top) (w .low))) e b₅);
+      signless = λ e. signless-by (w .form) (w .top) (w .low) b₅ e;
+      carrier = λ e. ltb→lt _ _ (subst (λ (f : Form). T (formTest f (w .top) (w .low))) e b₅);
     }
 
--- ---- the table, by one computed test: the code's number at a place is the word there, and the word is placed
+-- ---- the table, by one computed test: every word is placed
 abbrev wordTest : Kind → ℕ → Bool
-wordTest k j = let w = getD (layout k) j none in same (unpacked (getD numbers ((kindNumber k - 1) * 8 + j) 0)) w && placedTest w
+wordTest k j = placedTest (getD (layout k) j none)
 
 abbrev kindTest : Kind → Bool
 kindTest k = eqb (length (layout k)) 8 && below 8 (wordTest k)
 
 all-right : T (every kindTest kinds)
-unfolding layout numbers
+unfolding layout
 all-right = tt
-
-table-right : (k : Kind) → T (below 8 (wordTest k))
-table-right k = and-right (eqb (length (layout k)) 8) _ (every-kind kindTest all-right k)
 
 pub layout-long : (k : Kind) → length (layout k) ≡ 8
 layout-long k = eqb→eq _ _ (and-left (eqb (length (layout k)) 8) _ (every-kind kindTest all-right k))
 
-pub table-at : (k : Kind) (r j : ℕ) → r + 1 ≡ kindNumber k → j < 8
-    → (unpacked (getD numbers (r * 8 + j) 0) ≡ getD (layout k) j none) × Placed (unpacked (getD numbers (r * 8 + j) 0))
-table-at k r j e h =
-    let w = getD (layout k) j none in
-    let told : ℕ → Bool = (λ x. same (unpacked (getD numbers (x * 8 + j) 0)) w) in
-    let i : kindNumber k - 1 ≡ r = omega arith in
-    let t = below-at 8 (wordTest k) (table-right k) j h in
-    let s = same-word (unpacked (getD numbers (r * 8 + j) 0)) w (subst (λ (x : ℕ). T (told x)) i (and-left (told (kindNumber k - 1)) (placedTest w) t)) in
-    (s, subst Placed (sym s) (placed-by w (and-right (told (kindNumber k - 1)) (placedTest w) t)))
+pub placed-at : (k : Kind) (j : ℕ) → j < 8 → Placed (getD (layout k) j none)
+placed-at k j h =
+    placed-by (getD (layout k) j none) (below-at 8 (wordTest k) (and-right (eqb (length (layout k)) 8) _ (every-kind kindTest all-right k)) j h)
+
+-- the word that the code has for a kind's place
+pub told-at : (k q : Kind) (j : ℕ) (w : Word) → k ≡ q → w ≡ getD (layout q) j none → j < 8 → (w ≡ getD (layout k) j none) × Placed w
+told-at k q j w e f h =
+    let g : w ≡ getD (layout k) j none = f ∙ ap (λ (x : Kind). getD (layout x) j none) (sym e) in
+    (g, subst Placed (sym g) (placed-at k j h))
+
+-- past the words there are fillers alone
+none-at : (m j : ℕ) → getD (replicate m none) j none ≡ none
+none-at zero j = refl
+none-at (suc m) zero = refl
+none-at (suc m) (suc j) = none-at m j
+
+-- a place that is not n is past it
+pub beyond : (n j : ℕ) → n ≤ j → (j ≡ n → ⊥) → suc n ≤ j
+beyond n j h k = lt-of-le-ne h (λ q. k (sym q))
+
+pub past-words : (n m : ℕ) (ws : List Word) (j : ℕ) → drop n ws ≡ replicate m none → n ≤ j → none ≡ getD ws j none
+past-words n m ws j e h =
+    let q : n + (j - n) ≡ j = omega arith in
+    sym (ap (λ (k : ℕ). getD ws k none) (sym q) ∙ sym (getD-drop n ws (j - n) none) ∙ ap (λ (l : List Word). getD l (j - n) none) e ∙ none-at m (j - n))
 
 -- ---- a loop over the eight places
 pub values-long : (n : ℕ) (ws : List Word) → length (valuesOf n ws) ≡ length ws

@@ -1,34 +1,38 @@
 -- What is written in the words of a kind is read back, and what is read is written again, word for word: laws of one word at any place and of
 -- any width, then of a list of words that lie below one another, then of the eight kinds.
 -- Assumes nothing.
-use mathlib.Core.Path.{_≡_, refl, sym, ap, ap₂, _∙_, subst}
+use mathlib.Core.Path.{_≡_, refl, sym, ap, ap₂, _∙_}
 use mathlib.Core.Bool.{Bool, true, false, _&&_, _||_, true≢false}
 use mathlib.Core.List.{List, [], _∷_}
 use mathlib.Core.Logic.{⊎-elim}
-use Prim.Native.Nat.{ℕ, zero, suc, _+_, _-_, _*_, _/_, _%_, _^_, _≤_, _<_, suc-le-suc}
+use Prim.Native.Nat.{ℕ, zero, suc, _+_, _-_, _*_, _/_, _%_, _^_, _≤_, _<_}
 use native.Mathlib.Omega.{arith}
-use native.Mathlib.Nat.{mul-assoc, add-mul, lt-of-lt-of-le, lt-of-le-of-lt, le-of-suc-le-suc, not-suc-le-zero, le-refl, ne-of-lt, pow-suc, zero-lt-suc}
+use native.Mathlib.Nat.{mul-assoc, add-mul, lt-of-lt-of-le, lt-of-le-of-lt, le-of-suc-le-suc, not-suc-le-zero, le-refl, ne-of-lt, pow-suc}
 use borrow.Author.Tests.{lt-ltb, le-ltb, le-leb, lt-leb, leb-true, leb-false, ltb-true, ltb-false, eqb-true, eq-eqb, ne-eqb}
-use lib.Arith.{digits-lt}
-use lib.Dec.{T, leb, ltb, eqb, leb→le, ltb→lt, eqb→eq}
+use lib.Dec.{T, leb, ltb, eqb, ltb→lt}
 use lib.IntN.{ℤ, pos, negsuc, negℤ, natAbs}
 use lib.ListN.{length, getD}
 use lib.Pow as Pow
 use lib.Pow.{pow-add, pow-mono, pow-pos, high, shr-shr}
 use lib.Seq.{ext-getD}
-use lib.Signed.{leZ, nonNeg, pos-natAbs}
+use lib.Signed.{leZ}
 use Rattle.strings.specs.Pick.{pick}
 use Rattle.strings.specs.Number.{wordOf, bitOf}
-use Rattle.strings.proofs.Below.{and-left, and-right, below, below-at}
+use Rattle.strings.proofs.Below.{below, below-at}
 use Rattle.strings.proofs.Digits.{three}
+use Rattle.words.specs.declared.table.Form.{Form}
+use Rattle.words.specs.declared.table.Form.the-variants.{Plain, Signed, Time, Interval, Day, Slot, Carrier}
 use Rattle.words.specs.declared.table.Word.{Word}
 use Rattle.records.specs.declared.kinds.Kind.{Kind}
 use Rattle.words.specs.Layout.{layout, none}
 use Rattle.words.specs.Signed.{signedAt, codeAt}
-use Rattle.words.specs.Values.{width, carrierOf, carrierCode, valueIn, codeIn, leastOf, mostOf, inRange, valuesOf, firstBad, dataOf}
+use Rattle.words.specs.Values.{width, carrierOf, carrierCode, valueIn, codeIn, inRange, valuesOf, firstBad, dataOf}
 use Rattle.words.specs.Reserved.{inWords}
-use Rattle.words.specs.Tidied.{wordAt, bitsIn, tidyWord, tidyWords}
+use Rattle.words.specs.Tidied.{isSigned, wordAt, bitsIn, tidyWord, tidyWords}
 use Rattle.words.proofs.EveryKind.{kinds, every, every-kind}
+use Rattle.words.proofs.Forms.{Bare, plain-bare, time-bare, interval-bare, day-bare, slot-bare}
+use Rattle.words.proofs.Fits.{halfOf, plainTest, formTest, form-test, test-at, Sound, signed-near, carrier-wide, carrier-near, plain-pos}
+use Rattle.words.proofs.Fits.{laid, laid-of, top-laid, Fit, fit-rest, data-lt, range-at, range-fit, layout-laid}
 use Rattle.words.proofs.WordBits.{word-lt}
 use Rattle.words.proofs.Rows.{layout-long, values-long, values-at}
 
@@ -36,9 +40,10 @@ use Rattle.words.proofs.Rows.{layout-long, values-long, values-at}
 pub signed-back : (half : ℕ) (z : ℤ) → natAbs z < half → signedAt half (codeAt half z) ≡ z
 signed-back half (pos n) h = rw (lt-ltb n half h)
 signed-back half (negsuc n) h =
-    let e : half + suc n - half ≡ suc n = omega arith in
-    let l : half ≤ half + suc n = omega arith in
-    rw (le-ltb (half + suc n) half l, e)
+    let c = codeAt half (negsuc n) in
+    let l : half ≤ c = omega arith in
+    let e : c - half ≡ suc n = omega arith in
+    rw (le-ltb c half l, e)
 
 -- all bits come back but minus zero, which comes back as zero
 minus-code : (half raw d : ℕ) → half ≤ raw → d ≡ raw - half → codeAt half (negℤ (pos d)) ≡ pick (eqb raw half) 0 raw
@@ -56,13 +61,13 @@ signed-clean half raw = by (ltb raw half) refl
     by true q = let l = ltb-true raw half q in rw (ne-eqb raw half (ne-of-lt l))
     by false q = minus-code half raw (raw - half) (ltb-false raw half q) refl
 
--- ---- H, of five bits
-carrier-back : (z : ℤ) → leZ (negsuc 6) z ≡ true → leZ z (pos 13) ≡ true → (carrierOf (carrierCode z) ≡ z) × (carrierCode z < 32)
-carrier-back (pos n) l u = let h = leb-true n 13 u in (rw (lt-leb 25 n (omega arith)), omega arith)
+-- ---- H, of five bits: what 25..31 do not say stands for itself
+carrier-back : (z : ℤ) → leZ (negsuc 6) z ≡ true → leZ z (pos 24) ≡ true → carrierOf (carrierCode z) ≡ z
+carrier-back (pos n) l u = let h = leb-true n 24 u in rw (lt-leb 25 n (omega arith))
 carrier-back (negsuc n) l u =
     let h = leb-true n 6 l in
     let d : 32 - (31 - n) ≡ suc n = omega arith in
-    (rw (le-leb 25 (31 - n) (omega arith), d), omega arith)
+    rw (le-leb 25 (31 - n) (omega arith), d)
 
 carrier-clean : (raw : ℕ) → raw < 32 → carrierCode (carrierOf raw) ≡ raw
 carrier-clean raw h = by (leb 25 raw) refl
@@ -75,151 +80,41 @@ carrier-clean raw h = by (leb 25 raw) refl
     by true q = minus (32 - raw) refl (leb-true 25 raw q)
     by false q = refl
 
--- ---- the laws of one word, by a test that is computed for each word of the table
-pub and-both : (a b : Bool) → (a && b) ≡ true → (a ≡ true) × (b ≡ true)
-and-both true b e = (refl, e)
-and-both false b e = absurd (true≢false (sym e))
-
-pub is-true : (b : Bool) → T b → b ≡ true
-is-true true t = refl
-is-true false t = absurd t
-
--- a value between two bounds, by its distance from 0
-upper : (n : ℕ) (b : ℤ) → leZ (pos n) b ≡ true → n ≤ natAbs b
-upper n (pos m) e = leb-true n m e
-upper n (negsuc m) e = absurd (true≢false (sym e))
-
-lower : (n : ℕ) (a : ℤ) → leZ a (negsuc n) ≡ true → (suc n ≤ natAbs a) × (nonNeg a ≡ false)
-lower n (pos m) e = absurd (true≢false (sym e))
-lower n (negsuc m) e = (omega (arith, leb-true n m e), refl)
-
-near : (h : ℕ) (a z b : ℤ) → natAbs a < h → natAbs b < h → leZ a z ≡ true → leZ z b ≡ true → natAbs z < h
-near h a (pos n) b la lb p q = omega (arith, upper n b q)
-near h a (negsuc n) b la lb p q = omega (arith, lower n a p .0)
-
-unsigned : (a z : ℤ) → T (nonNeg a) → leZ a z ≡ true → T (nonNeg z)
-unsigned a (pos n) t p = tt
-unsigned a (negsuc n) t p = subst T (lower n a p .1) t
-
--- the weight of a word's top bit
-abbrev half : Word → ℕ
-half w = 2 ^ (w .top - w .low)
-
--- a signed word, H, and any other
-abbrev signedTest : Word → Bool
-signedTest w = leb (w .low) (w .top) && (ltb (natAbs (leastOf w)) (half w) && ltb (natAbs (mostOf w)) (half w))
-
-abbrev carrierTest : Word → Bool
-carrierTest w = eqb (2 ^ width w) 32 && (leZ (negsuc 6) (leastOf w) && leZ (mostOf w) (pos 13))
-
-abbrev plainTest : Word → Bool
-plainTest w = nonNeg (leastOf w) && ltb (natAbs (mostOf w)) (2 ^ width w)
-
-abbrev soundTest : Word → Bool
-soundTest w =
-    leb 9 (w .low) && (leb (w .low) (w .top + 1) && (ltb 0 (w .top)
-    && pick (eqb (w .form) 1) (signedTest w) (pick (eqb (w .form) 6) (carrierTest w) (plainTest w))))
-
-pub record Sound (w : Word) : Type 0 where
-  pub some : 0 < w .top
-  pub above : 9 ≤ w .low
-  pub order : w .low ≤ w .top + 1
-  -- a value in range has bits that the word holds, and they say the value
-  pub fits : (z : ℤ) → inRange w z ≡ true → codeIn w z < 2 ^ width w
+-- ---- the laws of one word, by the test that is computed for each word of the table
+pub record Trips (w : Word) : Type 0 where
+  -- the bits of a value in range say the value
   pub back : (z : ℤ) → inRange w z ≡ true → valueIn w (codeIn w z) ≡ z
   -- the value that bits say has these bits, but for minus zero
   pub clean : (raw : ℕ) → raw < 2 ^ width w → codeIn w (valueIn w raw) ≡ tidyWord w raw
 
-leZ-trans : (a b c : ℤ) → T (leZ a b) → leZ b c ≡ true → leZ a c ≡ true
-leZ-trans (pos a) (pos b) (pos c) p q = le-leb a c (omega (arith, leb→le a b p, leb-true b c q))
-leZ-trans (pos a) (pos b) (negsuc c) p q = absurd (true≢false (sym q))
-leZ-trans (pos a) (negsuc b) c p q = absurd p
-leZ-trans (negsuc a) b (pos c) p q = refl
-leZ-trans (negsuc a) (pos b) (negsuc c) p q = absurd (true≢false (sym q))
-leZ-trans (negsuc a) (negsuc b) (negsuc c) p q = le-leb c a (omega (arith, leb→le b a p, leb-true c b q))
-
-trans-leZ : (a b c : ℤ) → leZ a b ≡ true → T (leZ b c) → leZ a c ≡ true
-trans-leZ a b c p q = leZ-trans a b c (subst T (sym p) tt) (is-true (leZ b c) q)
-
 module _ (w : Word) where
-  between : (z : ℤ) → inRange w z ≡ true → (leZ (leastOf w) z ≡ true) × (leZ z (mostOf w) ≡ true)
-  between z e = and-both (leZ (leastOf w) z) (leZ z (mostOf w)) (and-both (leZ (leastOf w) z && leZ z (mostOf w)) _ e .0)
-
-  signed-near : T (signedTest w) → (z : ℤ) → inRange w z ≡ true → natAbs z < half w
-  signed-near t z e =
-      let r = and-right (leb (w .low) (w .top)) _ t in
-      let b = between z e in
-      near (half w) (leastOf w) z (mostOf w) (ltb→lt _ _ (and-left (ltb (natAbs (leastOf w)) (half w)) _ r)) (ltb→lt _ _ (and-right (ltb (natAbs (leastOf w)) (half w)) _ r))
-      (b .0) (b .1)
-
-  code-lt : (z : ℤ) → natAbs z < half w → codeAt (half w) z < half w + half w
-  code-lt (pos n) h = omega arith
-  code-lt (negsuc n) h = omega arith
-
-  signed-wide : T (signedTest w) → half w + half w ≡ 2 ^ width w
-  signed-wide t =
-      let l : w .low ≤ w .top = leb→le _ _ (and-left (leb (w .low) (w .top)) _ t) in
-      let e : width w ≡ suc (w .top - w .low) = omega arith in
-      sym (ap (λ (x : ℕ). 2 ^ x) e ∙ omega arith)
-
-  carrier-wide : T (carrierTest w) → 2 ^ width w ≡ 32
-  carrier-wide t = eqb→eq (2 ^ width w) 32 (and-left (eqb (2 ^ width w) 32) _ t)
-
-  carrier-both : T (carrierTest w) → (z : ℤ) → inRange w z ≡ true → (carrierOf (carrierCode z) ≡ z) × (carrierCode z < 32)
-  carrier-both t z e =
-      let r = and-right (eqb (2 ^ width w) 32) _ t in
-      let b = between z e in
-      carrier-back z (leZ-trans (negsuc 6) (leastOf w) z (and-left (leZ (negsuc 6) (leastOf w)) _ r) (b .0))
-      (trans-leZ z (mostOf w) (pos 13) (b .1) (and-right (leZ (negsuc 6) (leastOf w)) _ r))
-
-  plain-pos : T (plainTest w) → (z : ℤ) → inRange w z ≡ true → pos (natAbs z) ≡ z
-  plain-pos t z e = pos-natAbs z (unsigned (leastOf w) z (and-left (nonNeg (leastOf w)) _ t) (between z e .0))
-
-  plain-lt : T (plainTest w) → (z : ℤ) → inRange w z ≡ true → natAbs z < 2 ^ width w
-  plain-lt t z e =
-      lt-of-le-of-lt (upper (natAbs z) (mostOf w) (ap (λ (y : ℤ). leZ y (mostOf w)) (plain-pos t z e) ∙ between z e .1))
-      (ltb→lt _ _ (and-right (nonNeg (leastOf w)) _ t))
-
-  -- by the two tests of the form
-  sound-by : (a b : Bool) → eqb (w .form) 1 ≡ a → eqb (w .form) 6 ≡ b → 0 < w .top → 9 ≤ w .low → w .low ≤ w .top + 1
-      → T (pick a (signedTest w) (pick b (carrierTest w) (plainTest w))) → Sound w
-  sound-by true b p q s a o t =
+  bare-trips : Bare (w .form) → T (plainTest w) → Trips w
+  bare-trips b t =
       record {
-        some = s;
-        above = a;
-        order = o;
-        fits = λ z e. rw p (rw (← signed-wide t) (code-lt z (signed-near t z e)));
-        back = λ z e. rw p (signed-back (half w) z (signed-near t z e));
-        clean = λ raw h. rw p (signed-clean (half w) raw);
-      }
-  sound-by false true p q s a o t =
-      record {
-        some = s;
-        above = a;
-        order = o;
-        fits = λ z e. rw (p, q) (rw (carrier-wide t) (carrier-both t z e .1));
-        back = λ z e. rw (p, q) (carrier-both t z e .0);
-        clean = λ raw h. rw (p, q) (carrier-clean raw (rw (carrier-wide t) at h));
-      }
-  sound-by false false p q s a o t =
-      record {
-        some = s;
-        above = a;
-        order = o;
-        fits = λ z e. rw (p, q) (plain-lt t z e);
-        back = λ z e. rw (p, q) (plain-pos t z e);
-        clean = λ raw h. rw (p, q);
+        back = λ z e. b .value (halfOf w) (codeIn w z) ∙ ap pos (b .code (halfOf w) z) ∙ plain-pos w t z e;
+        clean = λ raw h. ap (codeIn w) (b .value (halfOf w) raw) ∙ b .code (halfOf w) (pos raw) ∙ rw (b .unsigned);
       }
 
-  pub sound-of : T (soundTest w) → Sound w
-  sound-of t =
-      let a = leb 9 (w .low) in
-      let b = leb (w .low) (w .top + 1) in
-      let c = ltb 0 (w .top) in
-      let u = and-right a _ t in
-      let v = and-right b _ u in
-      sound-by (eqb (w .form) 1) (eqb (w .form) 6) refl refl (ltb→lt _ _ (and-left c _ v)) (leb→le _ _ (and-left a _ t)) (leb→le _ _ (and-left b _ u))
-      (and-right c _ v)
+  -- by its form
+  trips-by : (f : Form) → w .form ≡ f → T (formTest f w) → Trips w
+  trips-by Plain p t = bare-trips (rw p plain-bare) t
+  trips-by Signed p t =
+      record {
+        back = λ z e. rw p (signed-back (halfOf w) z (signed-near w t z e));
+        clean = λ raw h. rw p (signed-clean (halfOf w) raw);
+      }
+  trips-by Time p t = bare-trips (rw p time-bare) t
+  trips-by Interval p t = bare-trips (rw p interval-bare) t
+  trips-by Day p t = bare-trips (rw p day-bare) t
+  trips-by Slot p t = bare-trips (rw p slot-bare) t
+  trips-by Carrier p t =
+      record {
+        back = λ z e. let b = carrier-near w t z e in rw p (carrier-back z (b .0) (b .1));
+        clean = λ raw h. rw p (carrier-clean raw (rw (carrier-wide w t) at h));
+      }
+
+pub trips-at : (t : ℕ) (ws : List Word) → T (laid t ws) → (j : ℕ) → Trips (getD ws j none)
+trips-at t ws d j = let w = getD ws j none in trips-by w (w .form) refl (form-test w (test-at t ws d j))
 
 -- ---- one word in a number, at any place and of any width
 -- what stands above the word and the word itself are one number above what lies below
@@ -265,54 +160,6 @@ word-same a b top low e l = ap (λ (x : ℕ). x % 2 ^ (top + 1 - low)) (shift-sa
 
 pub bit-same : (a b i : ℕ) → a / 2 ^ 8 ≡ b / 2 ^ 8 → 9 ≤ i → bitOf a i ≡ bitOf b i
 bit-same a b i e l = ap (λ (x : ℕ). x % 2) (shift-same a b (i - 1) e (omega arith))
-
--- ---- a list of words: each below the one before, all in bit t and below, and each sound
-abbrev pub laid : ℕ → List Word → Bool
-laid t [] = true
-laid t (w ∷ ws) = leb (w .top) t && (soundTest w && laid (w .low - 1) ws)
-
-record Laid (t : ℕ) (w : Word) (ws : List Word) : Type 0 where
-  under : w .top ≤ t
-  sound : Sound w
-  rest : T (laid (w .low - 1) ws)
-
-laid-of : (t : ℕ) (w : Word) (ws : List Word) → T (laid t (w ∷ ws)) → Laid t w ws
-laid-of t w ws d =
-    let r = and-right (leb (w .top) t) _ d in
-    record {
-      under = leb→le _ _ (and-left (leb (w .top) t) _ d);
-      sound = sound-of w (and-left (soundTest w) _ r);
-      rest = and-right (soundTest w) _ r;
-    }
-
--- a list that lies in its first word's top bit and below
-top-laid : (t : ℕ) (w : Word) (ws : List Word) → T (laid t (w ∷ ws)) → T (laid (w .top) (w ∷ ws))
-top-laid t w ws d = subst (λ (b : Bool). T (b && (soundTest w && laid (w .low - 1) ws))) (sym (le-leb (w .top) (w .top) (le-refl (w .top)))) (and-right (leb (w .top) t) _ d)
-
--- the filler is sound as well, so this holds past the end too
-pub sound-at : (t : ℕ) (ws : List Word) → T (laid t ws) → (j : ℕ) → Sound (getD ws j none)
-sound-at t [] d j = sound-of none tt
-sound-at t (w ∷ ws) d zero = laid-of t w ws d .sound
-sound-at t (w ∷ ws) d (suc j) = sound-at (w .low - 1) ws (laid-of t w ws d .rest) j
-
--- every value has bits that its word holds
-abbrev pub Fit : List Word → List ℤ → Type 0
-Fit ws zs = (j : ℕ) → j < length ws → codeIn (getD ws j none) (getD zs j (pos 0)) < 2 ^ width (getD ws j none)
-
-fit-rest : (w : Word) (ws : List Word) (z : ℤ) (zs : List ℤ) → Fit (w ∷ ws) (z ∷ zs) → Fit ws zs
-fit-rest w ws z zs f j l = f (suc j) (suc-le-suc l)
-
--- the words fill no bit above t
-pub data-lt : (ws : List Word) (zs : List ℤ) (t : ℕ) → T (laid t ws) → Fit ws zs → dataOf ws zs < 2 ^ t
-unfolding dataOf
-data-lt [] zs t d f = pow-pos t
-data-lt (w ∷ ws) [] t d f = pow-pos t
-data-lt (w ∷ ws) (z ∷ zs) t d f =
-    let l = laid-of t w ws d in
-    let o : (width w) + (w .low - 1) ≡ w .top = omega (arith, l .sound .above, l .sound .order) in
-    let p : 2 ^ width w * 2 ^ (w .low - 1) ≡ 2 ^ w .top = sym (pow-add 2 (width w) (w .low - 1)) ∙ ap (λ (x : ℕ). 2 ^ x) o in
-    let r = data-lt ws zs (w .low - 1) (l .rest) (fit-rest w ws z zs f) in
-    lt-of-lt-of-le (rw p at (digits-lt (f 0 (zero-lt-suc (length ws))) r)) (pow-mono (l .under))
 
 -- and none below bit 9
 pub data-high : (ws : List Word) (zs : List ℤ) (t : ℕ) → T (laid t ws) → dataOf ws zs % 2 ^ 8 ≡ 0
@@ -393,30 +240,8 @@ values-same a b (w ∷ ws) t d e =
     let l = laid-of t w ws d in
     ap₂ _∷_ (ap (valueIn w) (word-same a b (w .top) (w .low) e (l .sound .above))) (values-same a b ws (w .low - 1) (l .rest) e)
 
--- where none is out of range, each is in range
-range-head : (w : Word) (ws : List Word) (z : ℤ) (zs : List ℤ) → 0 < w .top → firstBad (w ∷ ws) (z ∷ zs) ≡ 0 → (inRange w z ≡ true) × (firstBad ws zs ≡ 0)
-unfolding firstBad
-range-head w ws z zs h e = by (inRange w z) refl e
-  where
-    by : (b : Bool) → inRange w z ≡ b → pick b (firstBad ws zs) (w .top) ≡ 0 → (inRange w z ≡ true) × (firstBad ws zs ≡ 0)
-    by true q p = (q, p)
-    by false q p = absurd (omega arith)
-
-pub range-at : (ws : List Word) (zs : List ℤ) (t : ℕ) → T (laid t ws) → length zs ≡ length ws → firstBad ws zs ≡ 0 → (j : ℕ) → j < length ws
-    → inRange (getD ws j none) (getD zs j (pos 0)) ≡ true
-range-at [] zs t d n e j l = absurd (not-suc-le-zero l)
-range-at (w ∷ ws) [] t d n e j l = absurd (omega arith)
-range-at (w ∷ ws) (z ∷ zs) t d n e zero l = range-head w ws z zs (laid-of t w ws d .sound .some) e .0
-range-at (w ∷ ws) (z ∷ zs) t d n e (suc j) l =
-    let a = laid-of t w ws d in
-    range-at ws zs (w .low - 1) (a .rest) (omega arith) (range-head w ws z zs (a .sound .some) e .1) j (le-of-suc-le-suc l)
-
--- values in range fit, and so do values that were read
-pub range-fit : (ws : List Word) (zs : List ℤ) (t : ℕ) → T (laid t ws) → length zs ≡ length ws → firstBad ws zs ≡ 0 → Fit ws zs
-range-fit ws zs t d n e j l = sound-at t ws d j .fits (getD zs j (pos 0)) (range-at ws zs t d n e j l)
-
 tidy-le : (w : Word) (raw : ℕ) → tidyWord w raw ≤ raw
-tidy-le w raw = by (eqb (w .form) 1 && eqb raw (2 ^ (w .top - w .low)))
+tidy-le w raw = by (isSigned (w .form) && eqb raw (2 ^ (w .top - w .low)))
   where
     by : (b : Bool) → pick b 0 raw ≤ raw
     by true = omega arith
@@ -427,7 +252,7 @@ pub code-read : (n : ℕ) (ws : List Word) (t : ℕ) → T (laid t ws) → (j : 
     → codeIn (getD ws j none) (getD (valuesOf n ws) j (pos 0)) ≡ tidyWord (getD ws j none) (bitsIn n (getD ws j none))
 code-read n ws t d j l =
     let w = getD ws j none in
-    ap (codeIn w) (values-at n ws j l) ∙ sound-at t ws d j .clean (bitsIn n w) (word-lt n (w .top) (w .low))
+    ap (codeIn w) (values-at n ws j l) ∙ trips-at t ws d j .clean (bitsIn n w) (word-lt n (w .top) (w .low))
 
 pub read-fit : (n : ℕ) (ws : List Word) (t : ℕ) → T (laid t ws) → Fit ws (valuesOf n ws)
 read-fit n ws t d j l =
@@ -442,7 +267,7 @@ values-data ws zs h t d n e =
     (λ j l. let b : j < length ws = omega (arith, values-long x ws) in
     let w = getD ws j none in
     values-at x ws j b ∙ ap (valueIn w) (word-data ws zs h t d n (range-fit ws zs t d n e) j b)
-    ∙ sound-at t ws d j .back (getD zs j (pos 0)) (range-at ws zs t d n e j b))
+    ∙ trips-at t ws d j .back (getD zs j (pos 0)) (range-at ws zs t d n e j b))
 
 -- READ AND WRITTEN: the words that were read, but for minus zeros
 pub data-values : (n : ℕ) (ws : List Word) (t : ℕ) → T (laid t ws) → dataOf ws (valuesOf n ws) ≡ tidyWords n ws
@@ -450,15 +275,7 @@ unfolding dataOf valuesOf tidyWords
 data-values n [] t d = refl
 data-values n (w ∷ ws) t d =
     let a = laid-of t w ws d in
-    ap₂ (λ (c r : ℕ). c * 2 ^ (w .low - 1) + r) (a .sound .clean (bitsIn n w) (word-lt n (w .top) (w .low))) (data-values n ws (w .low - 1) (a .rest))
-
--- THE TABLE: each word of a kind sound, each below the one before, all in bits 80..9
-all-laid : T (every (λ k. laid 80 (layout k)) kinds)
-unfolding layout
-all-laid = tt
-
-pub layout-laid : (k : Kind) → T (laid 80 (layout k))
-layout-laid k = every-kind (λ k. laid 80 (layout k)) all-laid k
+    ap₂ (λ (c r : ℕ). c * 2 ^ (w .low - 1) + r) (trips-at t (w ∷ ws) d 0 .clean (bitsIn n w) (word-lt n (w .top) (w .low))) (data-values n ws (w .low - 1) (a .rest))
 
 -- so a word of a lower place lies below: words fall
 abbrev fallTest : Kind → Bool
@@ -474,17 +291,9 @@ words-fall k i j l u =
     (below-at 8 (λ j. below j (λ i. ltb (wordAt k j .top) (wordAt k i .low))) (every-kind fallTest all-fall k) j u) i l)
 
 module _ (k : Kind) where
-  -- the data of a kind lie in bits 80..9
-  module _ (zs : List ℤ) (n : length zs ≡ 8) (e : firstBad (layout k) zs ≡ 0) where
-    kind-fit : Fit (layout k) zs
-    kind-fit = range-fit (layout k) zs 80 (layout-laid k) (n ∙ sym (layout-long k)) e
-
-    pub kind-data-lt : dataOf (layout k) zs < 2 ^ 80
-    kind-data-lt = data-lt (layout k) zs 80 (layout-laid k) kind-fit
-
-    -- WRITTEN AND READ, of any kind: whatever h stands above the data
-    pub kind-values : (h : ℕ) → valuesOf (h * 2 ^ 80 + dataOf (layout k) zs) (layout k) ≡ zs
-    kind-values h = values-data (layout k) zs h 80 (layout-laid k) (n ∙ sym (layout-long k)) e
+  -- WRITTEN AND READ, of any kind: whatever h stands above the data
+  pub kind-values : (zs : List ℤ) → length zs ≡ 8 → firstBad (layout k) zs ≡ 0 → (h : ℕ) → valuesOf (h * 2 ^ 80 + dataOf (layout k) zs) (layout k) ≡ zs
+  kind-values zs n e h = values-data (layout k) zs h 80 (layout-laid k) (n ∙ sym (layout-long k)) e
 
   pub kind-data-high : (zs : List ℤ) → dataOf (layout k) zs % 2 ^ 8 ≡ 0
   kind-data-high zs = data-high (layout k) zs 80 (layout-laid k)

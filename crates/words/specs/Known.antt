@@ -8,6 +8,7 @@ use Rattle.strings.specs.Hamming.{position, sumC, sumAll, syndrome, howMany, hi
 use Rattle.strings.specs.Numbers.{firstOf}
 use Rattle.strings.specs.Known.{zeros}
 use Rattle.records.specs.declared.kinds.Kind.{Kind}
+use Rattle.words.specs.declared.table.Form.the-variants.{Carrier}
 use Rattle.words.specs.Layout.{word}
 use Rattle.words.specs.Calls.{readTests}
 use Rattle.words.specs.Values.{valueIn, inRange}
@@ -22,10 +23,10 @@ pub record Known : Type 0 where
   pub least : signedAt 16 0b11111 ≡ negsuc 14
   pub greatest : signedAt 16 0b01111 ≡ pos 15
   -- H 31, 25: -1, -7; 14 and 24: RANGE
-  pub H-31 : valueIn (word 6 14 10) 31 ≡ negsuc 0
-  pub H-25 : valueIn (word 6 14 10) 25 ≡ negsuc 6
-  pub H-14 : inRange (word 6 14 10) (valueIn (word 6 14 10) 14) ≡ false
-  pub H-24 : inRange (word 6 14 10) (valueIn (word 6 14 10) 24) ≡ false
+  pub H-31 : valueIn (word Carrier 14 10) 31 ≡ negsuc 0
+  pub H-25 : valueIn (word Carrier 14 10) 25 ≡ negsuc 6
+  pub H-14 : inRange (word Carrier 14 10) (valueIn (word Carrier 14 10) 14) ≡ false
+  pub H-24 : inRange (word Carrier 14 10) (valueIn (word Carrier 14 10) 24) ≡ false
 
 pub known : Known
 unfolding numberOf paddingOf misshapen wordOf position sumC sumAll syndrome howMany highest placed judge ruling mended

@@ -4,5 +4,6 @@ pub mod Values
 pub mod Immediate
 pub mod Calls
 pub mod Reserved
+pub mod Widths
 pub mod Tidied
 pub mod Known

@@ -1,7 +1,7 @@
 -- Table 4.12 of the ICD: the reserved bits of each string. That they are exactly the bits 9..80 in no word of the kind holds the layout against
 -- the ICD from outside.
 -- Assumes nothing.
-use Prim.Native.Nat.{ℕ, _+_}
+use Prim.Native.Nat.{ℕ}
 use mathlib.Core.Bool.{Bool, true, false, not, _&&_, _||_, Bool·beq}
 use mathlib.Core.List.{List, [], _∷_, _++_}
 use lib.Dec.{T, eqb, leb}

@@ -2,7 +2,7 @@
 -- the reader and written 0."
 -- Assumes nothing.
 use Prim.Native.Nat.{ℕ, _+_, _-_, _*_, _^_, _≤_, _<_}
-use mathlib.Core.Bool.{Bool, false, _&&_}
+use mathlib.Core.Bool.{Bool, true, false, _&&_}
 use mathlib.Core.List.{List, [], _∷_}
 use mathlib.Core.Path.{_≡_}
 use lib.Dec.{eqb}
@@ -10,6 +10,8 @@ use lib.ListN.{getD}
 use Rattle.strings.specs.Pick.{pick}
 use Rattle.strings.specs.Number.{wordOf, bitOf}
 use Rattle.strings.specs.Hamming.{Encoded, encode}
+use Rattle.words.specs.declared.table.Form.{Form}
+use Rattle.words.specs.declared.table.Form.the-variants.{Plain, Signed, Time, Interval, Day, Slot, Carrier}
 use Rattle.words.specs.declared.table.Word.{Word}
 use Rattle.records.specs.declared.kinds.Kind.{Kind}
 use Rattle.words.specs.Layout.{layout, none}
@@ -24,9 +26,18 @@ wordAt k j = getD (layout k) j none
 abbrev pub bitsIn : ℕ → Word → ℕ
 bitsIn n w = wordOf n (w .top) (w .low)
 
+abbrev pub isSigned : Form → Bool
+isSigned Plain = false
+isSigned Signed = true
+isSigned Time = false
+isSigned Interval = false
+isSigned Day = false
+isSigned Slot = false
+isSigned Carrier = false
+
 -- the bits of a word are minus zero: the sign alone is 1
 abbrev pub isMinusZero : Word → ℕ → Bool
-isMinusZero w raw = eqb (w .form) 1 && eqb raw (2 ^ (w .top - w .low))
+isMinusZero w raw = isSigned (w .form) && eqb raw (2 ^ (w .top - w .low))
 
 -- the bits of a word as they were, but 0 for minus zero
 abbrev pub tidyWord : Word → ℕ → ℕ

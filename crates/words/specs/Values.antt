@@ -1,13 +1,15 @@
 -- What the bits of a word say, which values it may have, and all words of a kind together (the paper, "Words").
 -- Assumes nothing.
 use Prim.Native.Nat.{ℕ, _+_, _-_, _*_, _/_, _%_, _^_}
-use mathlib.Core.Bool.{Bool, true, _&&_}
+use mathlib.Core.Bool.{Bool, true, false, _&&_}
 use mathlib.Core.List.{List, [], _∷_}
-use lib.Dec.{eqb, leb, ltb}
+use lib.Dec.{leb, ltb}
 use lib.IntN.{ℤ, pos, negsuc, negℤ, natAbs}
 use lib.Signed.{leZ}
 use Rattle.strings.specs.Pick.{pick}
 use Rattle.strings.specs.Number.{wordOf}
+use Rattle.words.specs.declared.table.Form.{Form}
+use Rattle.words.specs.declared.table.Form.the-variants.{Plain, Signed, Time, Interval, Day, Slot, Carrier}
 use Rattle.words.specs.declared.table.Word.{Word}
 use Rattle.words.specs.Signed.{signedAt, codeAt}
 
@@ -23,16 +25,28 @@ abbrev pub carrierCode : ℤ → ℕ
 carrierCode (pos n) = n
 carrierCode (negsuc n) = 31 - n
 
--- the value that the bits of a word say
-abbrev pub valueAs : ℕ → ℕ → ℕ → ℤ
-valueAs form half raw = pick (eqb form 1) (signedAt half raw) (pick (eqb form 6) (carrierOf raw) (pos raw))
+-- the value that the bits of a word say, where `half` is the weight of its top bit
+abbrev pub valueAs : Form → ℕ → ℕ → ℤ
+valueAs Plain half raw = pos raw
+valueAs Signed half raw = signedAt half raw
+valueAs Time half raw = pos raw
+valueAs Interval half raw = pos raw
+valueAs Day half raw = pos raw
+valueAs Slot half raw = pos raw
+valueAs Carrier half raw = carrierOf raw
 
 abbrev pub valueIn : Word → ℕ → ℤ
 valueIn w raw = valueAs (w .form) (2 ^ (w .top - w .low)) raw
 
 -- the bits of a value
-abbrev pub codeAs : ℕ → ℕ → ℤ → ℕ
-codeAs form half z = pick (eqb form 1) (codeAt half z) (pick (eqb form 6) (carrierCode z) (natAbs z))
+abbrev pub codeAs : Form → ℕ → ℤ → ℕ
+codeAs Plain half z = natAbs z
+codeAs Signed half z = codeAt half z
+codeAs Time half z = natAbs z
+codeAs Interval half z = natAbs z
+codeAs Day half z = natAbs z
+codeAs Slot half z = natAbs z
+codeAs Carrier half z = carrierCode z
 
 abbrev pub codeIn : Word → ℤ → ℕ
 codeIn w z = codeAs (w .form) (2 ^ (w .top - w .low)) z
@@ -40,29 +54,46 @@ codeIn w z = codeAs (w .form) (2 ^ (w .top - w .low)) z
 -- ---- "Only these ranges refuse: hour 0..23; minute 0..59; tb raw 1..95 (15 to 1425 minutes); NA 1..1461; nA 1..24; H 0..13, or 25..31 meaning
 -- -7..-1"; and "The encoder also refuses a value that its word's bits can't hold"
 -- the least value of a word
-abbrev pub leastOf : Word → ℤ
-leastOf w =
-    pick (eqb (w .form) 1) (negℤ (pos (2 ^ (w .top - w .low) - 1)))
-    (pick (eqb (w .form) 6) (negsuc 6)
-    (pick (leb 3 (w .form)) (pos 1)
-    (pos 0)))
+abbrev pub leastAs : Form → Word → ℤ
+leastAs Plain w = pos 0
+leastAs Signed w = negℤ (pos (2 ^ (w .top - w .low) - 1))
+leastAs Time w = pos 0
+leastAs Interval w = pos 1
+leastAs Day w = pos 1
+leastAs Slot w = pos 1
+leastAs Carrier w = negsuc 6
 
--- the greatest
+abbrev pub leastOf : Word → ℤ
+leastOf w = leastAs (w .form) w
+
+-- the greatest; tk has 12 bits
+abbrev pub mostAs : Form → Word → ℤ
+mostAs Plain w = pos (2 ^ width w - 1)
+mostAs Signed w = pos (2 ^ (w .top - w .low) - 1)
+mostAs Time w = pos (2 ^ 12 - 1)
+mostAs Interval w = pos 95
+mostAs Day w = pos 1461
+mostAs Slot w = pos 24
+mostAs Carrier w = pos 13
+
 abbrev pub mostOf : Word → ℤ
-mostOf w =
-    pick (eqb (w .form) 1) (pos (2 ^ (w .top - w .low) - 1))
-    (pick (eqb (w .form) 3) (pos 95)
-    (pick (eqb (w .form) 4) (pos 1461)
-    (pick (eqb (w .form) 5) (pos 24)
-    (pick (eqb (w .form) 6) (pos 13)
-    (pos (2 ^ width w - 1))))))
+mostOf w = mostAs (w .form) w
 
 -- "tk is hour (5 bits), minute (6), half minute (1)"
 abbrev pub isTime : ℕ → Bool
 isTime t = ltb (t / 128) 24 && ltb (t / 2 % 64) 60
 
+abbrev pub isTk : Form → Bool
+isTk Plain = false
+isTk Signed = false
+isTk Time = true
+isTk Interval = false
+isTk Day = false
+isTk Slot = false
+isTk Carrier = false
+
 abbrev pub inRange : Word → ℤ → Bool
-inRange w z = (leZ (leastOf w) z && leZ z (mostOf w)) && pick (eqb (w .form) 2) (isTime (natAbs z)) true
+inRange w z = (leZ (leastOf w) z && leZ z (mostOf w)) && pick (isTk (w .form)) (isTime (natAbs z)) true
 
 -- ---- all words of a kind
 -- the values in a string's number

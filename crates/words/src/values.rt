@@ -1,17 +1,18 @@
 // The value of a word: from its bits, to its bits, and its range.
+use crate::table::Form;
 use crate::table::Word;
 use crate::table::word_at;
 use records::Kind;
 ghost use mathlib.Core.Path.{_≡_};
 ghost use mathlib.Core.Bool.{_&&_};
-ghost use Prim.Native.Nat.{_+_, _-_, _≤_, _<_, _^_};
+ghost use Prim.Native.Nat.{_+_, _-_, _/_, _≤_, _<_, _^_};
 ghost use lib.ListN.{length};
-ghost use lib.IntN.{pos, natAbs};
+ghost use lib.IntN.{pos, negℤ, natAbs};
 ghost use lib.Signed.{leZ};
 ghost use Rattle.strings.specs.Number.{numberOf, wordOf};
 ghost use Rattle.words.specs.Signed.{signedAt, codeAt};
 ghost use Rattle.words.specs.Layout.{Placed, layout};
-ghost use Rattle.words.specs.Values.{width, carrierOf, carrierCode, valueIn, codeIn, leastOf, mostOf, isTime, inRange, valuesOf, firstBad};
+ghost use Rattle.words.specs.Values.{width, carrierOf, carrierCode, valueIn, codeIn, isTime, inRange, valuesOf, firstBad};
 ghost use Rattle.words.specs.Calls.{numberIn};
 
 pub fn wide(x: u8) -> u64
@@ -20,19 +21,30 @@ pub fn wide(x: u8) -> u64
     x as u64
 }
 
-// The word in bits top down to low: the bytes that it touches, as one number, shifted and cut.
-pub fn word_in(s: &[u8], top: u8, low: u8) -> u64
+fn byte(x: u8) -> u32
+    ensures { λ r. ⌜ r ≡ x ⌝ }
+{
+    x as u32
+}
+
+// The word in bits top down to low, 32 at most: what it has of its first byte, the bytes between, and
+// what it has of its last. A word of no bits has its low bit in the byte of its top bit.
+pub fn word_in(s: &[u8], top: u8, low: u8) -> u32
     requires { ⌜ length (now s) ≡ 11 ⌝ }
-    requires { ⌜ (1 ≤ low) × ((low ≤ top + 1) × ((top ≤ 85) × (top < low + 32))) ⌝ }
+    requires { ⌜ ((1 ≤ low) × (low ≤ 85)) × ((low ≤ top + 1) × ((top ≤ 85) × ((top < low + 32) × ((85 - top) / 8 ≤ (85 - low) / 8)))) ⌝ }
     ensures { λ r. ⌜ r ≡ wordOf (numberOf (now (s .entry))) top low ⌝ }
 {
     let first = ((85 - top) / 8) as usize;
-    let end = ((93 - low) / 8) as usize;
-    let mut bits: u64 = 0;
-    for i in first..end {
-        bits = bits * 256 + wide(s[i]);
+    let last = ((85 - low) / 8) as usize;
+    let below = (low + 2) % 8;
+    let mut bits = byte(s[first]) % (2 << ((top + 2) % 8));
+    if first == last {
+        return bits >> below;
     }
-    (bits >> ((low + 2) % 8)) % (1 << (top + 1 - low))
+    for i in first + 1..last {
+        bits = bits * 256 + byte(s[i]);
+    }
+    (bits << (8 - below)) + (byte(s[last]) >> below)
 }
 
 // The string number m.
@@ -44,7 +56,7 @@ pub fn number_in(s: &[u8]) -> u8
 }
 
 // Sign and magnitude, where half is the weight of the sign.
-fn signed_value(raw: u64, half: u64) -> i32
+fn signed_value(raw: u32, half: u32) -> i32
     requires { ⌜ (half ≤ 2 ^ 31) × (raw < half + half) ⌝ }
     ensures { λ r. ⌜ r ≡ signedAt half raw ⌝ }
 {
@@ -67,7 +79,7 @@ fn signed_code(z: i32, half: u64) -> u64
 }
 
 // H by Table 4.10: 25 to 31 stand for -7 to -1.
-fn carrier_value(raw: u64) -> i32
+fn carrier_value(raw: u32) -> i32
     requires { ⌜ raw < 32 ⌝ }
     ensures { λ r. ⌜ r ≡ carrierOf raw ⌝ }
 {
@@ -90,16 +102,15 @@ fn carrier_code(z: i32) -> u64
 }
 
 // What the bits of a word say.
-fn value_of(w: Word, raw: u64) -> i32
+fn value_of(w: Word, raw: u32) -> i32
     requires { ⌜ Placed w × (raw < 2 ^ width w) ⌝ }
     ensures { λ r. ⌜ r ≡ valueIn w raw ⌝ }
 {
-    if w.form == 1 {
-        signed_value(raw, 1 << (w.top - w.low))
-    } else if w.form == 6 {
-        carrier_value(raw)
-    } else {
-        raw as i32
+    let form = w.form;
+    match form {
+        Form::Signed => signed_value(raw, 1 << (w.top - w.low)),
+        Form::Carrier => carrier_value(raw),
+        _ => raw as i32,
     }
 }
 
@@ -108,12 +119,11 @@ pub fn code_of(w: Word, z: i32) -> u64
     requires { ⌜ Placed w ⌝ }
     ensures { λ r. ⌜ (r ≡ codeIn w z) × (r < 2 ^ 33) ⌝ }
 {
-    if w.form == 1 {
-        signed_code(z, 1 << (w.top - w.low))
-    } else if w.form == 6 {
-        carrier_code(z)
-    } else {
-        magnitude(z)
+    let form = w.form;
+    match form {
+        Form::Signed => signed_code(z, 1 << (w.top - w.low)),
+        Form::Carrier => carrier_code(z),
+        _ => magnitude(z),
     }
 }
 
@@ -124,48 +134,12 @@ pub fn magnitude(z: i32) -> u64
     signed_code(z, 0)
 }
 
-// The least value that a word may have.
-fn least_of(w: Word) -> i32
-    requires { ⌜ Placed w ⌝ }
-    ensures { λ r. ⌜ r ≡ leastOf w ⌝ }
-{
-    if w.form == 1 {
-        -most_magnitude(w.top - w.low)
-    } else if w.form == 6 {
-        -7
-    } else if 3 <= w.form {
-        1
-    } else {
-        0
-    }
-}
-
-// The greatest.
-fn most_of(w: Word) -> i32
-    requires { ⌜ Placed w ⌝ }
-    ensures { λ r. ⌜ r ≡ mostOf w ⌝ }
-{
-    if w.form == 1 {
-        most_magnitude(w.top - w.low)
-    } else if w.form == 3 {
-        95
-    } else if w.form == 4 {
-        1461
-    } else if w.form == 5 {
-        24
-    } else if w.form == 6 {
-        13
-    } else {
-        most_magnitude(w.top + 1 - w.low)
-    }
-}
-
 // The greatest number of that many bits.
 fn most_magnitude(bits: u8) -> i32
     requires { ⌜ bits < 32 ⌝ }
     ensures { λ r. ⌜ r ≡ pos (2 ^ bits - 1) ⌝ }
 {
-    ((1u64 << bits) - 1) as i32
+    ((1u32 << bits) - 1) as i32
 }
 
 // Hour, minute and half minute are those of a day.
@@ -181,19 +155,40 @@ fn is_between(least: i32, z: i32, most: i32) -> bool
     if least <= z { z <= most } else { false }
 }
 
+// Whether it is a tk: of 12 bits, and a time.
+fn is_in_day(z: i32) -> bool
+    ensures { λ r. ⌜ r ≡ ((leZ (pos 0) z && leZ z (pos 4095)) && isTime (natAbs z)) ⌝ }
+{
+    if is_between(0, z, 4095) {
+        is_time(magnitude(z))
+    } else {
+        false
+    }
+}
+
+// Whether a number has at most that many bits beside its sign.
+fn is_around(z: i32, bits: u8) -> bool
+    requires { ⌜ bits < 32 ⌝ }
+    ensures { λ r. ⌜ r ≡ (leZ (negℤ (pos (2 ^ bits - 1))) z && leZ z (pos (2 ^ bits - 1))) ⌝ }
+{
+    let most = most_magnitude(bits);
+    is_between(-most, z, most)
+}
+
 // Whether a word may have the value.
 fn is_in_range(w: Word, z: i32) -> bool
     requires { ⌜ Placed w ⌝ }
     ensures { λ r. ⌜ r ≡ inRange w z ⌝ }
 {
-    if is_between(least_of(w), z, most_of(w)) {
-        if w.form == 2 {
-            is_time(magnitude(z))
-        } else {
-            true
-        }
-    } else {
-        false
+    let form = w.form;
+    match form {
+        Form::Plain => is_between(0, z, most_magnitude(w.top + 1 - w.low)),
+        Form::Signed => is_around(z, w.top - w.low),
+        Form::Time => is_in_day(z),
+        Form::Interval => is_between(1, z, 95),
+        Form::Day => is_between(1, z, 1461),
+        Form::Slot => is_between(1, z, 24),
+        Form::Carrier => is_between(-7, z, 13),
     }
 }
 

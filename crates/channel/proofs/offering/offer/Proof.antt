@@ -1,52 +1,75 @@
--- `offering::offer` meets its contract: the relative code refuses, or the plain string is offered (`OfferAnswers`). Assumes nothing.
-use mathlib.Core.Path.{refl}
-use Rattle.channel.proofs.OfferAnswers.{relative-refuses, relative-shapes, relative-reads}
+-- `offering::offer` meets its contract: the row put together again, its record and its tallies by the answer (`Settling`). Assumes nothing.
+use mathlib.Core.Path.{_≡_, sym, ap, _∙_}
+use mathlib.Core.Bool.{Bool}
+use mathlib.Core.List.{List}
+use mathlib.Core.Logic.{⊎-elim}
+use Prim.Native.Nat.{ℕ}
+use Rattle.tallies.specs.declared.Tallies.{Tallies}
+use Rattle.tallies.specs.Tallies.{afterOffer}
+use Rattle.channel.specs.declared.Row.{Row}
+use Rattle.immediate.specs.Kept.{recordBy}
+use Rattle.channel.specs.Row.{Held, heldIn, holding, counted}
+use Rattle.channel.specs.Offers.{outcomeOf, tellsRecord}
+use Rattle.channel.proofs.Settling.{offers-by}
 use borrow.Author.Needs.{needs}
 use Rattle.channel.proofs.offering.offer.Statement.{statement}
 use Rattle.channel.proofs.offering.offer.Tie as tie
 
-slice-aggregate-from-relative : tie.Need-slice-aggregate-from-relative
-slice-aggregate-from-relative c = search needs
+-- a row with tallies
+abbrev tallied : Row → Tallies → Row
+tallied row t = record { strings = row .strings; start = row .start; present = row .present; immediate = row .immediate; tallies = t }
 
-from-relative-requires : tie.Need-from-relative-requires
-from-relative-requires c κs = search needs
+-- the row taken apart and offered to; the row as it came, and what is held after the offer
+abbrev apart : tie.Joined1 → tie.After-offer-apart
+apart c = c .before .before .before .before
 
-enum-known-read : tie.Need-enum-known-read
-enum-known-read c = search needs
+abbrev given : tie.After-offer-apart → Row
+given d = d .before .before .before .before .args .row
 
-refuse-requires : tie.Need-refuse-requires
-refuse-requires c κs = search needs
+abbrev after : tie.After-offer-apart → Held
+after d = heldIn (d .offer-apart .result .head) (d .offer-apart .last .1 .0)
 
-enum-told : tie.Need-enum-told
-enum-told c = search needs
+-- the record by the answer
+kept : (c : tie.Joined1) → c .if1 .row ≡ holding (given (apart c)) (after (apart c)) (recordBy (tellsRecord (apart c .offer-apart .result .answer)) (after (apart c) .bytes) (given (apart c) .immediate))
+kept c =
+    let row = given (apart c) in
+    let h = after (apart c) in
+    let by : Bool → Row = λ (t : Bool). holding row h (recordBy t (h .bytes) (row .immediate)) in
+    let e = c .before .is-built .ensures in
+    ⊎-elim (λ w. w .2 ∙ ap (λ (l : List ℕ). holding row h (record { strings = l })) (w .1 .ensures) ∙ ap by (sym (w .0 .taken) ∙ e))
+    (λ w. w .1 ∙ ap by (sym (w .0 .left) ∙ e))
+    (c .if1 .came)
 
-offer-plain-requires : tie.Need-offer-plain-requires
-offer-plain-requires c κs =
-    let d = c .before .before .before in
-    let a = d .before .before .before .args in
-    relative-shapes (a .row) (a .epoch) _ _ _ _ refl (d .from-relative .ensures) (c .enum-told .given .1)
+slice-aggregate-offer-apart : tie.Need-slice-aggregate-offer-apart
+slice-aggregate-offer-apart c = search needs
+
+offer-apart-requires : tie.Need-offer-apart-requires
+offer-apart-requires c κs = search needs
+
+is-built-requires : tie.Need-is-built-requires
+is-built-requires c κs = search needs
+
+first-four-requires : tie.Need-first-four-requires
+first-four-requires c κs = search needs
+
+count-requires : tie.Need-count-requires
+count-requires c κs = search needs
 
 returns : tie.Need-returns
+unfolding counted
 returns c =
-    let d = c .before .before .before .before .before in
-    let a = d .before .before .before .args in
-    relative-refuses (a .row) (a .epoch) _ _ _ _ refl (d .from-relative .ensures) _ _ (c .before .before .read .given .1) (c .refuse .ensures)
-
-returns-2 : tie.Need-returns-2
-returns-2 c =
-    let d = c .before .before .before .before in
-    let a = d .before .before .before .args in
-    relative-reads (a .row) (a .epoch) _ _ _ _ refl (d .from-relative .ensures) (c .before .enum-told .given .1) _ (c .offer-plain .ensures)
+    let d = apart (c .before .before) in
+    let o = outcomeOf (d .offer-apart .result .answer) in
+    offers-by (given d) (d .before .before .before .before .args .epoch) _ (after d) _ (d .offer-apart .ensures)
+    (ap (tallied (c .before .before .if1 .row)) (c .count .ensures) ∙ ap (λ (x : Row). tallied x (afterOffer o (x .tallies))) (kept (c .before .before)))
 
 pub offer-spec : {M : Type 1} → statement M
 offer-spec =
     tie.close
     (tie.spec
-    slice-aggregate-from-relative
-    from-relative-requires
-    enum-known-read
-    refuse-requires
-    enum-told
-    offer-plain-requires
-    returns
-    returns-2)
+    slice-aggregate-offer-apart
+    offer-apart-requires
+    is-built-requires
+    first-four-requires
+    count-requires
+    returns)

@@ -1,0 +1,4 @@
+pub mod Item
+pub mod Parts
+pub mod Turns
+pub mod Walk

@@ -1,0 +1,4 @@
+// The station lent to a host in C: it lies in the host's memory, and is changed in its place.
+mod offering;
+
+pub use offering::spineyarrow_offer;

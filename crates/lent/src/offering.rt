@@ -1,0 +1,41 @@
+// An offer to a lent station. The row of its channel is copied out and back, and of the book the
+// entries that rise; the station never.
+use book::Shown;
+use book::join;
+use book::place_of;
+use book::rises;
+use shows::newly_shown;
+use station::Station;
+use told::told_in;
+ghost use Rattle.book.specs.Book.{InBook};
+ghost use Rattle.lent.specs.Lent.{OffersLent, BringsOne};
+
+// Offers a string, in relative form and of any length, to a channel at an epoch. CHANNEL is told as
+// 1, before anything of the station is read.
+#[no_mangle]
+pub extern "C" fn spineyarrow_offer(st: &mut Station, channel: u8, epoch: u32, s: &[u8]) -> u64
+    ensures { λ r. ⌜ OffersLent (now (st .entry)) channel epoch (now (s .entry)) (now (st .exit)) r ⌝ }
+{
+    if 23 < channel {
+        return 1;
+    }
+    let i = channel as usize;
+    let offered = channel::offer(st.rows[i], epoch, s);
+    st.rows[i] = offered.row;
+    let shown = newly_shown(offered.answer, offered.row.present, offered.row.strings);
+    for j in 0..5 {
+        bring_one(st, shown[j]);
+    }
+    told_in(offered.answer)
+}
+
+// Joins what is shown to the book, in its place: an entry is copied only where what is shown rises.
+fn bring_one(st: &mut Station, s: Shown)
+    requires { ⌜ InBook s ⌝ }
+    ensures { λ _. ⌜ BringsOne (now (st .entry)) s (now (st .exit)) ⌝ }
+{
+    let at = place_of(s);
+    if rises(st.book.entries[at], s) {
+        st.book.entries[at] = join(st.book.entries[at], s);
+    }
+}
