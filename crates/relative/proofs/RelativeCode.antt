@@ -9,7 +9,7 @@ use native.Mathlib.Nat.{mod-lt, zero-lt-suc, ne-of-lt, eq-or-lt-of-le, le-of-suc
 use native.Mathlib.Omega.{arith}
 use lib.Bits.{xor-lt}
 use lib.Dec.{eqb, lit<, lit≤}
-use lib.ListN.{length}
+use lib.ListN.{length, getD}
 use lib.Pow.{ones-lt}
 use borrow.Author.Tests.{ne-eqb}
 use Rattle.strings.specs.declared.Written.{Written}
@@ -18,7 +18,7 @@ use Rattle.strings.specs.declared.Refusal.the-variants.{Shape, Idle, Room}
 use Rattle.strings.specs.Pick.{pick}
 use Rattle.strings.specs.Number.{bitOf, fromBits, numberOf, misshapen, stringBytes}
 use Rattle.relative.specs.Relative.{sent, writeRelative, readBit, readRelative, inverse}
-use Rattle.strings.specs.Numbers.{Test, Answers, Exactly}
+use Rattle.strings.specs.Numbers.{Test, test, Answers, Exactly}
 use Rattle.strings.specs.Calls.{writtenPaper, isIdle}
 use Rattle.relative.specs.Calls.{readingTests, writingTests, ReadsRelative, WritesRelative}
 use Rattle.strings.proofs.Digits.{bit-lt, bit-xor, bits-same, from-lt, bit-from, high-bit}
@@ -32,11 +32,11 @@ pick-lt true m n h k = h
 pick-lt false m n h k = k
 
 read-bit-lt : (x i : ℕ) → readBit x i < 2
-read-bit-lt x i = pick-lt (eqb i 85) 0 ((bitOf x i + bitOf x (i + 1)) % 2) (zero-lt-suc 1) (mod-lt (bitOf x i + bitOf x (i + 1)) (zero-lt-suc 1))
+read-bit-lt x i = pick-lt (eqb i 85) _ _ (zero-lt-suc 1) (mod-lt _ (zero-lt-suc 1))
 
 pub sent-lt : (n k : ℕ) → sent n k < 2
 sent-lt n zero = zero-lt-suc 1
-sent-lt n (suc k) = mod-lt (bitOf n (85 - k) + sent n k) (zero-lt-suc 1)
+sent-lt n (suc k) = mod-lt _ (zero-lt-suc 1)
 
 pub bit-read : (x i : ℕ) → 1 ≤ i → i ≤ 85 → bitOf (readRelative x) i ≡ readBit x i
 unfolding readRelative
@@ -46,12 +46,16 @@ pub bit-written : (n i : ℕ) → 1 ≤ i → i ≤ 85 → bitOf (writeRelative 
 unfolding writeRelative
 bit-written n i = bit-from (λ j. sent n (86 - j)) (λ j. sent-lt n (86 - j)) 85 i
 
--- the symbol in the place of bit i is the bit added to the symbol in the place before
+-- the symbol in the place of bit i is one step of the definition past the symbol in the place before
+pub sent-step : (n i : ℕ) → 1 ≤ i → i ≤ 85 → sent n (86 - i) ≡ sent n (suc (85 - i))
+sent-step n i l u = let e : 86 - i ≡ suc (85 - i) = omega arith in ap (sent n) e
+
+-- which adds the bit
 pub sent-at : (n i : ℕ) → 1 ≤ i → i ≤ 85 → sent n (86 - i) ≡ (bitOf n i + sent n (85 - i)) % 2
 sent-at n i l u =
-    let e : 86 - i ≡ suc (85 - i) = omega arith in
     let d : 85 - (85 - i) ≡ i = omega arith in
-    ap (sent n) e ∙ ap (λ (j : ℕ). (bitOf n j + sent n (85 - i)) % 2) d
+    let f : sent n (suc (85 - i)) ≡ (bitOf n (85 - (85 - i)) + sent n (85 - i)) % 2 = refl in
+    sent-step n i l u ∙ f ∙ ap (λ (j : ℕ). (bitOf n j + sent n (85 - i)) % 2) d
 
 pub read-below : (x i : ℕ) → i < 85 → readBit x i ≡ (bitOf x i + bitOf x (i + 1)) % 2
 read-below x i h = rw (ne-eqb i 85 (ne-of-lt h))
@@ -59,6 +63,11 @@ read-below x i h = rw (ne-eqb i 85 (ne-of-lt h))
 pub written-lt : (n : ℕ) → writeRelative n < 2 ^ 85
 unfolding writeRelative
 written-lt n = from-lt (λ j. sent n (86 - j)) (λ j. sent-lt n (86 - j)) 85
+
+-- what is read is bits, 85 of them at most
+pub read-fits : (x : ℕ) → readRelative x < 2 ^ 85
+unfolding readRelative
+read-fits x = from-lt (readBit x) (read-bit-lt x) 85
 
 -- the highest bit is 0
 from-lt-less : (f : ℕ → ℕ) → ((i : ℕ) → f i < 2) → (m : ℕ) → f (suc m) ≡ 0 → fromBits f (suc m) < 2 ^ m
@@ -165,14 +174,25 @@ module _ (s out : List ℕ) where
   unfolding WritesRelative
   write-no-shape h e = goes-on 12 (has-room out h) (refuses 1 e)
 
-  pub write-idle : length out ≡ 11 → misshapen s ≡ false → isIdle (numberOf s) ≡ true → WritesRelative s out (Refused Idle) out
+  -- past room and shape a writing goes by its last test, whatever that is: the code's two ends need no more
+  abbrev lastFits : Bool
+  lastFits = getD (writingTests s out) 2 (test 0 false) .fits
+
+  pub last-refuses : length out ≡ 11 → misshapen s ≡ false → lastFits ≡ true → WritesRelative s out (Refused Idle) out
   unfolding WritesRelative
-  write-idle h e i = goes-on 12 (has-room out h) (goes-on 2 e (refuses 3 i))
+  last-refuses h e i = goes-on 12 (has-room out h) (goes-on 2 e (refuses 3 i))
+
+  pub last-takes : length out ≡ 11 → misshapen s ≡ false → lastFits ≡ false → WritesRelative s out Done (stringBytes (writeRelative (numberOf s)))
+  unfolding WritesRelative
+  last-takes h e i = goes-on 12 (has-room out h) (goes-on 2 e (goes-on 4 i (takes refl refl)))
+
+  -- it is the test of bit 85
+  pub write-idle : length out ≡ 11 → misshapen s ≡ false → isIdle (numberOf s) ≡ true → WritesRelative s out (Refused Idle) out
+  write-idle h e i = last-refuses h e i
 
   pub writes : length out ≡ 11 → misshapen s ≡ false → isIdle (numberOf s) ≡ false
       → WritesRelative s out Done (stringBytes (writeRelative (numberOf s)))
-  unfolding WritesRelative
-  writes h e i = goes-on 12 (has-room out h) (goes-on 2 e (goes-on 4 i (takes refl refl)))
+  writes h e i = last-takes h e i
 
 -- ---- no second answer fits, and each number is given exactly where its test is the first to fit
 once : {ts : List Test} {told made out out′ out″ : List ℕ} (r q : Written)

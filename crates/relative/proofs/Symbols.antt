@@ -19,7 +19,7 @@ use Rattle.strings.specs.Number.{valueOf, bytesOf, bitOf, fromBits, numberOf, f
 use Rattle.relative.specs.Relative.{sent, writeRelative, readBit, readRelative}
 use Rattle.strings.proofs.Digits.{bit-lt, bit-xor, bits-same, low-digit, from-lt, bit-from, bit-flip, flip-lt, three}
 use Rattle.strings.proofs.Value.{Bytes, byte-at, length-bytes, getD-bytes, bytes-value, value-bytes, number-lt, bit-at}
-use Rattle.relative.proofs.RelativeCode.{pick-lt, read-lt, bit-read, read-below, written-lt, bit-written, sent-lt, sent-at}
+use Rattle.relative.proofs.RelativeCode.{pick-lt, read-fits, bit-read, read-below, written-lt, bit-written, sent-lt, sent-step}
 
 -- ---- reading
 -- each bit added, modulo 2, to the bit above it
@@ -129,7 +129,7 @@ read-number s h n =
     let e : valueOf (led s) / 8 ≡ t * 2 ^ 85 + x = ap (λ (k : ℕ). (t * 2 ^ (8 * k) + v) / 8) n ∙ omega arith in
     let first : t ≡ bitOf x 85 = (let b = h 0 in let f = bit-at s 85 h n (lit≤ tt) (lit≤ tt) in omega arith) in
     ap (λ (y : ℕ). y % 2 ^ 85) (above-shr (valueOf (led s)) 3 ∙ ap withAbove e)
-    ∙ bits-same 85 (withAbove (t * 2 ^ 85 + x) % 2 ^ 85) (readRelative x) (mod-lt (withAbove (t * 2 ^ 85 + x)) (pow-pos 85)) (omega (arith, read-lt x))
+    ∙ bits-same 85 (withAbove (t * 2 ^ 85 + x) % 2 ^ 85) (readRelative x) (mod-lt (withAbove (t * 2 ^ 85 + x)) (pow-pos 85)) (read-fits x)
     (λ i l u. low-digit (withAbove (t * 2 ^ 85 + x)) 85 (i - 1) (omega arith) ∙ led-bit t x (number-lt s h n) first i l u ∙ sym (bit-read x i l u))
 
 -- one byte more
@@ -196,6 +196,7 @@ module _ (n i : ℕ) (l : 1 ≤ i) (u : i ≤ 84) where
       → y ≡ partSent n (i - 1)
   sends y h bits =
       let e : 86 - (i + 1) ≡ 85 - i = omega arith in
+      let d : i ≡ 85 - (85 - i) = omega arith in
       bits-same 85 y (partSent n (i - 1)) h (part-lt n (i - 1))
       (λ j lj uj. bits j lj ∙ ⊎-elim
       (λ (g : j < i). rw (ne-eqb j i (ne-of-lt g)) (omega (arith, bit-part-plain n i j lj uj (omega arith), bit-part-plain n (i - 1) j lj uj (omega arith), bit-lt n j)))
@@ -204,7 +205,7 @@ module _ (n i : ℕ) (l : 1 ≤ i) (u : i ≤ 84) where
       (rw (eq-eqb i i refl)
       (ap₂ (λ (x y : ℕ). (x + y) % 2) (bit-part-plain n i i l (omega arith) (omega arith))
       (bit-part-sent n i (i + 1) (omega arith) (omega arith) (omega arith) ∙ ap (sent n) e)
-      ∙ sym (sent-at n i l (omega arith)) ∙ sym (bit-part-sent n (i - 1) i l (omega arith) (omega arith)))))
+      ∙ ap (λ (j : ℕ). (bitOf n j + sent n (85 - i)) % 2) d ∙ sym (sent-step n i l (omega arith)) ∙ sym (bit-part-sent n (i - 1) i l (omega arith) (omega arith)))))
       (λ (g : i < j). rw (ne-eqb j i (ne-of-gt g)) (omega (arith, bit-part-sent n i j lj uj g, bit-part-sent n (i - 1) j lj uj (omega arith), sent-lt n (86 - j)))))
       (three j i))
 

@@ -10,15 +10,16 @@ use borrow.Author.Tests.{eqb-true, eqb-false, ltb-false}
 use lib.Dec.{eqb}
 use lib.ListN.{length, getD, set, length-set, length-replicate, getD-replicate}
 use lib.Seq.{getD-set-same, getD-set-other}
+use Rattle.strings.specs.Numbers.{test, answerOf}
 use Rattle.book.specs.declared.Book.{Book}
 use Rattle.channel.specs.declared.Row.{Row}
 use Rattle.channel.specs.Row.{emptyRow}
-use Rattle.channel.specs.Offers.{offeredRow, Offers}
-use Rattle.channel.specs.History.{Call as OnChannel, Runs as ChannelRuns, fresh as fresh-row, offering as offering-it, resetting as resetting-it}
+use Rattle.channel.specs.Offers.{answerPaper, offerTests, offeredRow, Offers}
+use Rattle.channel.specs.History.{Call as OnChannel, saidTo, Runs as ChannelRuns, fresh as fresh-row, offering as offering-it, resetting as resetting-it}
 use Rattle.station.specs.declared.Station.{Station}
 use Rattle.station.specs.declared.Stepped.{Stepped}
 use Rattle.station.specs.declared.Emptied.{Emptied}
-use Rattle.station.specs.Station.{freshStation, noRow, rowAt, isNoChannel, bookAfter, stationAfter, stationReset, OffersTo, Resets}
+use Rattle.station.specs.Station.{freshStation, noRow, rowAt, heldAt, isNoChannel, toldIn, bookAfter, stationAfter, stationReset, OffersTo, Resets}
 use Rattle.station.specs.History.{Call, Offer, Reset, channelOf, itself, callsOn, Runs, fresh, offering, resetting}
 
 -- ---- one row
@@ -103,11 +104,16 @@ on-one call cs st row book e i here =
         (subst (ChannelRuns (callsOn c cs))
         (sym (put-other (st .rows) (i .long) (channelOf call) c row (served-below (channelOf call) e) (λ w. eqb-false (channelOf call) c q (sym w)))) (i .run c f))
 
+-- an offer's answer is its own row's
+pub own-answer : (st : Station) (c epoch : ℕ) (s : List ℕ) (r : Stepped) → isNoChannel c ≡ false → OffersTo st c epoch s r
+    → answerPaper (r .answer) ≡ saidTo (heldAt st c) epoch s
+own-answer st c epoch s r e o = o .answer ∙ ap (λ (t : Bool). answerOf (test 1 t ∷ offerTests (heldAt st c) epoch s) (toldIn st c epoch s)) e
+
 -- what a station's offer says of its row's
 pub row-offers : (st : Station) (c epoch : ℕ) (s : List ℕ) (r : Stepped) → isNoChannel c ≡ false → OffersTo st c epoch s r
     → Offers (rowAt st c) epoch s (record { row = offeredRow (rowAt st c) epoch s; answer = r .answer })
 unfolding Offers
-row-offers st c epoch s r e o = record { answer = rw e at (o .answer); left = refl }
+row-offers st c epoch s r e o = record { answer = own-answer st c epoch s r e o; left = refl }
 
 -- a fresh station
 fresh-long : length (freshStation .rows) ≡ 24

@@ -28,7 +28,7 @@ use Rattle.station.specs.declared.Emptied.{Emptied}
 use Rattle.station.specs.Station.{noRow, rowAt, isNoChannel, OffersTo, Resets}
 use Rattle.station.specs.History.{Call, Offer, Reset, channelOf, itself, callsOn, saidOn, saidAfter, Part, ShownIn, Runs}
 use Rattle.station.specs.Demands.{SameCalls}
-use Rattle.station.proofs.ChannelRuns.{in-step, calls-other}
+use Rattle.station.proofs.ChannelRuns.{in-step, calls-other, own-answer}
 use Rattle.station.proofs.Holding.{held-once}
 use Rattle.station.proofs.BookRule.{slot-holds, book-full}
 
@@ -116,7 +116,7 @@ offer-said cs st run c epoch s r o = by (isNoChannel c) refl
     by : (t : Bool) → isNoChannel c ≡ t → answerPaper (r .answer) ≡ pick t (1 ∷ []) (saidTo (heldAfter (callsOn c cs)) epoch s)
     by true e = rw e at (o .answer)
     by false e =
-        (rw e at (o .answer)) ∙ ap (λ (f : Frame). saidTo f epoch s) (held-is (callsOn c cs) (rowAt st c) (in-step cs st run .run c e))
+        own-answer st c epoch s r e o ∙ ap (λ (f : Frame). saidTo f epoch s) (held-is (callsOn c cs) (rowAt st c) (in-step cs st run .run c e))
 
 pub reset-said : (cs : List Call) (st : Station) (c : ℕ) (r : Emptied) → Resets st c r → writtenPaper (r .answer) ≡ saidAfter cs (Reset c)
 unfolding saidAfter

@@ -18,11 +18,11 @@ use Rattle.tallies.specs.Tallies.Outcome.{Refused, Taken}
 module _ (n : ℕ) where
   pub more-below : n < limit → oneMore n ≡ n + 1
   unfolding oneMore
-  more-below h = let g : n + 1 ≤ limit = omega (h, arith) in min-eq-right g
+  more-below h = omega (h, arith)
 
   pub more-there : limit ≤ n → oneMore n ≡ limit
   unfolding oneMore
-  more-there h = let g : limit ≤ n + 1 = omega (h, arith) in min-eq-left g
+  more-there h = omega (h, arith)
 
 -- what one more makes of a tally that is the lesser of the limit and a count
 more-of-least : (n : ℕ) → oneMore (min limit n) ≡ min limit (n + 1)

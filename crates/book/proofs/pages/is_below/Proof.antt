@@ -11,7 +11,7 @@ returns c =
     let d = c .before .before in
     let a = d .before .before .before .args .a in
     let b = d .before .before .before .args .b in
-    rw (below-fields a b (search needs) (search needs) (search needs) (search needs), ne-eqb (a .day) (b .day) (d .if1 .taken))
+    rw (below-fields a b (search needs) (search needs) (search needs) (search needs)) (simp (ne-eqb (a .day) (b .day) (d .if1 .taken)))
 
 returns-2 : tie.Need-returns-2
 returns-2 c =
@@ -19,11 +19,10 @@ returns-2 c =
     let d = e .before .before .before in
     let a = d .before .before .before .args .a in
     let b = d .before .before .before .args .b in
-    rw (
-      below-fields a b (search needs) (search needs) (search needs) (search needs),
+    rw (below-fields a b (search needs) (search needs) (search needs) (search needs)) (simp (
       eq-eqb (a .day) (b .day) (d .if1 .left),
       ne-eqb (a .etop) (b .etop) (e .if2 .taken),
-    )
+    ))
 
 returns-3 : tie.Need-returns-3
 returns-3 c =
@@ -32,12 +31,11 @@ returns-3 c =
     let d = e .before .before .before in
     let a = d .before .before .before .args .a in
     let b = d .before .before .before .args .b in
-    rw (
-      below-fields a b (search needs) (search needs) (search needs) (search needs),
+    rw (below-fields a b (search needs) (search needs) (search needs) (search needs)) (simp (
       eq-eqb (a .day) (b .day) (d .if1 .left),
       eq-eqb (a .etop) (b .etop) (e .if2 .left),
       ne-eqb (a .even) (b .even) (f .if3 .taken),
-    )
+    ))
 
 returns-4 : tie.Need-returns-4
 returns-4 c =
@@ -47,13 +45,12 @@ returns-4 c =
     let d = e .before .before .before in
     let a = d .before .before .before .args .a in
     let b = d .before .before .before .args .b in
-    rw (
-      below-fields a b (search needs) (search needs) (search needs) (search needs),
+    rw (below-fields a b (search needs) (search needs) (search needs) (search needs)) (simp (
       eq-eqb (a .day) (b .day) (d .if1 .left),
       eq-eqb (a .etop) (b .etop) (e .if2 .left),
       eq-eqb (a .even) (b .even) (f .if3 .left),
       ne-eqb (a .otop) (b .otop) (g .if4 .taken),
-    )
+    ))
 
 returns-5 : tie.Need-returns-5
 returns-5 c =
@@ -63,13 +60,12 @@ returns-5 c =
     let d = e .before .before .before in
     let a = d .before .before .before .args .a in
     let b = d .before .before .before .args .b in
-    rw (
-      below-fields a b (search needs) (search needs) (search needs) (search needs),
+    rw (below-fields a b (search needs) (search needs) (search needs) (search needs)) (simp (
       eq-eqb (a .day) (b .day) (d .if1 .left),
       eq-eqb (a .etop) (b .etop) (e .if2 .left),
       eq-eqb (a .even) (b .even) (f .if3 .left),
       eq-eqb (a .otop) (b .otop) (g .if4 .left),
-    )
+    ))
 
 pub is-below-spec : {M : Type 1} → statement M
 is-below-spec = tie.close (tie.spec returns returns-2 returns-3 returns-4 returns-5)

@@ -10,7 +10,7 @@ use denote.Ref.{now}
 use Rattle.strings.specs.Number.{misshapen}
 use Rattle.strings.proofs.Value.{copied}
 use Rattle.strings.proofs.Shape.{shaped, shape-told}
-use Rattle.relative.proofs.RelativeCode.{write-no-room, write-no-shape, write-idle, writes}
+use Rattle.relative.proofs.RelativeCode.{write-no-room, write-no-shape, last-refuses, last-takes}
 use borrow.Author.Needs.{needs}
 use borrow.Author.Tests.{eq-eqb, ne-eqb}
 use Rattle.relative.proofs.coding.to_relative.Statement.{statement}
@@ -47,7 +47,7 @@ bit-requires c κs = (shaped _ (shape-ok c) .0, search needs)
 returns-3 : tie.Need-returns-3
 returns-3 c =
     let d = c .before .before in
-    write-idle _ _ (room-ok d) (shape-ok d) (eq-eqb _ _ (sym (c .before .bit .ensures) ∙ c .if3 .taken))
+    last-refuses (S d) (O d) (room-ok d) (shape-ok d) (eq-eqb _ _ (sym (c .before .bit .ensures) ∙ c .if3 .taken))
 
 copy-requires : tie.Need-copy-requires
 copy-requires c κs = let d = c .before .before .before in omega (arith, shaped _ (shape-ok d) .0)
@@ -62,10 +62,11 @@ same-length c = search needs
 
 returns-4 : tie.Need-returns-4
 returns-4 c =
-    let d = c .before .before .before .before .before .before .before .before .before .before in
+    let t = c .before .before .before .before .before .before .before .before in
+    let d = t .before .before in
     let e = copy-ok d _ (c .before .before .before .before .before .before .copy .ensures .1) in
     rw (c .before .before .send-symbols .ensures, e)
-    (writes _ _ (room-ok d) (shape-ok d) (ne-eqb _ _ (λ q. c .before .before .before .before .before .before .before .before .if3 .left (c .before .before .before .before .before .before .before .before .before .bit .ensures ∙ q))))
+    (last-takes (S d) (O d) (room-ok d) (shape-ok d) (ne-eqb _ _ (λ q. t .if3 .left (t .before .bit .ensures ∙ q))))
 
 pub to-relative-spec : {M : Type 1} → statement M
 to-relative-spec =

@@ -1,7 +1,7 @@
 -- `counting::one_more` meets its contract. Assumes nothing.
-use mathlib.Core.Path.{sym}
+use native.Mathlib.Omega.{arith}
 use borrow.Author.Needs.{needs}
-use Rattle.tallies.proofs.Counts.{more-below, more-there}
+use Rattle.tallies.specs.Tallies.{oneMore}
 use Rattle.tallies.proofs.counting.one_more.Statement.{statement}
 use Rattle.tallies.proofs.counting.one_more.Tie as tie
 
@@ -9,10 +9,12 @@ add-result : tie.Need-add-result
 add-result c = search needs
 
 returns : tie.Need-returns
-returns c = sym (more-below (c .before .args .tally) (c .if1 .taken))
+unfolding oneMore
+returns c = omega arith
 
 returns-2 : tie.Need-returns-2
-returns-2 c = sym (more-there (c .before .args .tally) (c .if1 .left))
+unfolding oneMore
+returns-2 c = omega arith
 
 pub one-more-spec : {M : Type 1} → statement M
 one-more-spec = tie.close (tie.spec add-result returns returns-2)
