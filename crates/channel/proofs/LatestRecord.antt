@@ -23,12 +23,12 @@ use Rattle.book.proofs.Good.{both}
 use Rattle.channel.specs.declared.News.the-variants.{AlreadyHeld, Kept, RecordBuilt, RecordOutOfRange}
 use Rattle.channel.specs.declared.Row.{Row}
 use Rattle.immediate.specs.declared.Immediate.{Immediate}
-use Rattle.immediate.specs.Kept.{fourGood, keptFour, hasRecord, recordOf, recordBy}
+use Rattle.immediate.specs.Kept.{fourGood, keptFour, hasRecord, recordIn, recordBy}
 use Rattle.channel.specs.Frame.{Frame, emptyFrame, withString, startOf, isOfFrame, isHere, frameFor, isComplete, isReadable, newsAt}
 use Rattle.channel.specs.Row.{isPresent, Held, frameIn, heldOf, frameOf, emptyRow, heldFor, stored, heldWith, isBuilt, counted}
 use Rattle.hearing.specs.Hears.{wholeOf}
 use Rattle.channel.specs.Offers.{takenRow, offerTests, offeredRow}
-use Rattle.channel.specs.History.{Call, Offer, Reset, heldAfter, makesRecord, fourOf, recordAfter, LeftSince, now, before, SomeMoment, Runs, fresh, offering, resetting}
+use Rattle.channel.specs.History.{Call, Offer, Reset, heldAfter, makesRecord, fourOf, recordAfter, LeftSince, latest, before, SomeMoment, Runs, fresh, offering, resetting}
 use Rattle.channel.proofs.Frames.{stored-frame, held-for}
 use Rattle.hearing.proofs.Hearing.{whole-lt}
 use Rattle.channel.proofs.HeldFrame.{taken-numbered, for-long, offered-is, runs-long, held-is, frame-after}
@@ -74,8 +74,8 @@ module _ (h : Held) (long : length (h .bytes) ≡ 165) (c : isComplete (frameIn 
       ap₂ (λ (x y : ℕ). fourGood x y (stringAt (take 44 (h .bytes)) 2) (stringAt (take 44 (h .bytes)) 3)) (text-is 0 (lit< tt) has-one) (text-is 1 (lit< tt) has-two)
       ∙ ap₂ (λ (x y : ℕ). fourGood (frameIn h .text 1) (frameIn h .text 2) x y) (text-is 2 (lit< tt) (three .0)) (text-is 3 (lit< tt) (three .1))
 
-  pub built : isReadable (frameIn h) ≡ true → recordOf (record { strings = take 44 (h .bytes) }) ≡ fourOf (frameIn h)
-  unfolding recordOf
+  pub built : isReadable (frameIn h) ≡ true → recordIn (record { strings = take 44 (h .bytes) }) ≡ fourOf (frameIn h)
+  unfolding recordIn
   built r = rw (built-held ∙ r) built-four
 
 -- ---- a string above 4 leaves strings 1..4 as they were
@@ -91,17 +91,17 @@ module _ (g : Frame) (n : ℕ) (above : leb (numberIn n) 4 ≡ false) where
 
 -- ---- one offer, to a row whose record is up to date
 abbrev UpToDate : Row → Type 0
-UpToDate row = makesRecord (frameOf row) ≡ true → recordOf (row .immediate) ≡ fourOf (frameOf row)
+UpToDate row = makesRecord (frameOf row) ≡ true → recordIn (row .immediate) ≡ fourOf (frameOf row)
 
 -- what the record ought to be then
 abbrev nextRecord : Row → Frame → List ℕ
-nextRecord row f = pick (makesRecord f) (fourOf f) (recordOf (row .immediate))
+nextRecord row f = pick (makesRecord f) (fourOf f) (recordIn (row .immediate))
 
 -- where the frame stays, so does the record
-same-record : (row : Row) → UpToDate row → recordOf (row .immediate) ≡ nextRecord row (frameOf row)
+same-record : (row : Row) → UpToDate row → recordIn (row .immediate) ≡ nextRecord row (frameOf row)
 same-record row u = by (makesRecord (frameOf row)) refl
   where
-    by : (t : Bool) → makesRecord (frameOf row) ≡ t → recordOf (row .immediate) ≡ pick t (fourOf (frameOf row)) (recordOf (row .immediate))
+    by : (t : Bool) → makesRecord (frameOf row) ≡ t → recordIn (row .immediate) ≡ pick t (fourOf (frameOf row)) (recordIn (row .immediate))
     by true e = u e
     by false e = refl
 
@@ -128,20 +128,20 @@ module _ (row : Row) (epoch n : ℕ) (long : length (row .strings) ≡ 165) (sma
   next-long = length-sets (heldFor (heldOf row) (startOf epoch n) .bytes) (11 * (numberIn n - 1)) (stringBytes n) ∙ for-long (heldOf row) (startOf epoch n) long
 
   -- where it is above 4 and the frame makes a record, it did so before
-  before-it : leb (numberIn n) 4 ≡ false → makesRecord whole ≡ true → recordOf (row .immediate) ≡ fourOf whole
+  before-it : leb (numberIn n) 4 ≡ false → makesRecord whole ≡ true → recordIn (row .immediate) ≡ fourOf whole
   before-it a m = by (isOfFrame (frameOf row) (startOf epoch n)) (sym (later-makes joined n a) ∙ m) ∙ sym (later-four joined n a)
     where
       by : (t : Bool) → makesRecord (pick t (frameOf row) (emptyFrame (startOf epoch n))) ≡ true
-          → recordOf (row .immediate) ≡ fourOf (pick t (frameOf row) (emptyFrame (startOf epoch n)))
+          → recordIn (row .immediate) ≡ fourOf (pick t (frameOf row) (emptyFrame (startOf epoch n)))
       by true e = u e
       by false e = absurd (false≢true e)
 
-  new-record : recordOf (recordBy (isBuilt (newsAt whole (numberIn n))) (next .bytes) (row .immediate)) ≡ nextRecord row whole
+  new-record : recordIn (recordBy (isBuilt (newsAt whole (numberIn n))) (next .bytes) (row .immediate)) ≡ nextRecord row whole
   new-record = by (leb (numberIn n) 4) (isComplete whole) (isReadable whole) refl refl refl
     where
       by : (l c r : Bool) → leb (numberIn n) 4 ≡ l → isComplete whole ≡ c → isReadable whole ≡ r
-          → recordOf (recordBy (isBuilt (pick (l && c) (pick r RecordBuilt RecordOutOfRange) Kept)) (next .bytes) (row .immediate))
-          ≡ pick (c && r) (fourOf whole) (recordOf (row .immediate))
+          → recordIn (recordBy (isBuilt (pick (l && c) (pick r RecordBuilt RecordOutOfRange) Kept)) (next .bytes) (row .immediate))
+          ≡ pick (c && r) (fourOf whole) (recordIn (row .immediate))
       by true true true a b c =
           built next next-long (ap isComplete next-frame ∙ b) (ap isReadable next-frame ∙ c) ∙ ap fourOf next-frame
       by true true false a b c = refl
@@ -157,23 +157,23 @@ module _ (row : Row) (epoch : ℕ) (s : List ℕ) (long : length (row .strings) 
   more = withString (frameFor (frameOf row) (startOf epoch (wholeOf s))) (wholeOf s)
 
   taken-record : 1 ≤ numberIn (wholeOf s)
-      → recordOf (takenRow row epoch (wholeOf s) .immediate) ≡ nextRecord row (pick (isHere (frameOf row) epoch (wholeOf s)) (frameOf row) more)
+      → recordIn (takenRow row epoch (wholeOf s) .immediate) ≡ nextRecord row (pick (isHere (frameOf row) epoch (wholeOf s)) (frameOf row) more)
   unfolding takenRow heldWith
   taken-record least = by (isHere (frameOf row) epoch (wholeOf s))
     where
       by : (t : Bool)
-          → recordOf (recordBy (isBuilt (pick t AlreadyHeld (newsAt more (numberIn (wholeOf s)))))
+          → recordIn (recordBy (isBuilt (pick t AlreadyHeld (newsAt more (numberIn (wholeOf s)))))
           (pick t (heldOf row) (stored (heldFor (heldOf row) (startOf epoch (wholeOf s))) (wholeOf s)) .bytes) (row .immediate))
           ≡ nextRecord row (pick t (frameOf row) more)
       by true = same-record row u
       by false = new-record row epoch (wholeOf s) long (whole-lt s) least u
 
-  pub record-after : recordOf (offeredRow row epoch s .immediate) ≡ nextRecord row (frameOf (offeredRow row epoch s))
+  pub record-after : recordIn (offeredRow row epoch s .immediate) ≡ nextRecord row (frameOf (offeredRow row epoch s))
   unfolding counted
   record-after = by (eqb (firstOf (offerTests (frameOf row) epoch s)) 0) refl ∙ ap (nextRecord row) (sym (frame-after row epoch s long))
     where
       by : (t : Bool) → eqb (firstOf (offerTests (frameOf row) epoch s)) 0 ≡ t
-          → recordOf (pick t (takenRow row epoch (wholeOf s)) row .immediate)
+          → recordIn (pick t (takenRow row epoch (wholeOf s)) row .immediate)
           ≡ nextRecord row (pick t (pick (isHere (frameOf row) epoch (wholeOf s)) (frameOf row) more) (frameOf row))
       by true e = taken-record (taken-numbered (frameOf row) epoch s (eqb-true (firstOf (offerTests (frameOf row) epoch s)) 0 e))
       by false e = same-record row u
@@ -186,12 +186,12 @@ record-now [] e = absurd (false≢true e)
 record-now (Offer epoch s ∷ cs) e = rw e
 record-now (Reset ∷ cs) e = absurd (false≢true e)
 
-no-record : recordOf (emptyRow .immediate) ≡ []
-unfolding emptyRow recordOf hasRecord isGood layout valuesOf firstBad numberOf wordOf
+no-record : recordIn (emptyRow .immediate) ≡ []
+unfolding emptyRow recordIn hasRecord isGood layout valuesOf firstBad numberOf wordOf
 no-record = refl
 
 -- THE ROW'S RECORD IS THE HISTORY'S
-pub record-is : (cs : List Call) (row : Row) → Runs cs row → recordOf (row .immediate) ≡ recordAfter cs
+pub record-is : (cs : List Call) (row : Row) → Runs cs row → recordIn (row .immediate) ≡ recordAfter cs
 unfolding recordAfter
 record-is cs row fresh = no-record
 record-is cs row (offering epoch s ds prior r run o) =
@@ -201,7 +201,7 @@ record-is cs row (offering epoch s ds prior r run o) =
     let f : frameOf (offeredRow prior epoch s) ≡ heldAfter (Offer epoch s ∷ ds) =
     ap frameOf (sym (offered-is prior epoch s r o)) ∙ held-is (Offer epoch s ∷ ds) (r .row) (offering epoch s ds prior r run o)
     in
-    ap (λ (x : Row). recordOf (x .immediate)) (offered-is prior epoch s r o) ∙ record-after prior epoch s (runs-long ds prior run) u
+    ap (λ (x : Row). recordIn (x .immediate)) (offered-is prior epoch s r o) ∙ record-after prior epoch s (runs-long ds prior run) u
     ∙ ap₂ (λ (x : Frame) (l : List ℕ). pick (makesRecord x) (fourOf x) l) f i
 record-is cs row (resetting ds prior run) = no-record
 
@@ -217,21 +217,21 @@ moment-found (Offer epoch s ∷ cs) n = by (makesRecord (heldAfter (Offer epoch 
   where
     by : (t : Bool) → makesRecord (heldAfter (Offer epoch s ∷ cs)) ≡ t → (pick t (fourOf (heldAfter (Offer epoch s ∷ cs))) (recordAfter cs) ≡ [] → ⊥)
         → ((recordAfter cs ≡ [] → ⊥) → SomeMoment cs) → SomeMoment (Offer epoch s ∷ cs)
-    by true e m ih = record { frame = heldAfter (Offer epoch s ∷ cs); left = now epoch s cs; makes = e }
+    by true e m ih = record { frame = heldAfter (Offer epoch s ∷ cs); left = latest epoch s cs; makes = e }
     by false e m ih = let i = ih m in record { frame = i .frame; left = before epoch s cs (i .frame) (i .left); makes = i .makes }
 moment-found (Reset ∷ cs) n = absurd (n refl)
 
 moment-kept : (cs : List Call) (f : Frame) → LeftSince cs f → makesRecord f ≡ true → recordAfter cs ≡ [] → ⊥
 unfolding recordAfter
-moment-kept cs f (now epoch s ds) e q = not-empty _ _ (rw e at q)
+moment-kept cs f (latest epoch s ds) e q = not-empty _ _ (rw e at q)
 moment-kept cs f (before epoch s ds g l) e q = by (makesRecord (heldAfter (Offer epoch s ∷ ds))) (λ z. moment-kept ds g l e z) q
   where
     by : (t : Bool) → (recordAfter ds ≡ [] → ⊥) → pick t (fourOf (heldAfter (Offer epoch s ∷ ds))) (recordAfter ds) ≡ [] → ⊥
     by true ih z = not-empty _ _ z
     by false ih z = ih z
 
-record-there : (i : Immediate) → (hasRecord i ≡ true) ↔ (recordOf i ≡ [] → ⊥)
-unfolding recordOf
+record-there : (i : Immediate) → (hasRecord i ≡ true) ↔ (recordIn i ≡ [] → ⊥)
+unfolding recordIn
 record-there i = by (hasRecord i)
   where
     by : (t : Bool) → (t ≡ true) ↔ (pick t (keptFour i) [] ≡ [] → ⊥)

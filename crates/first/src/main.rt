@@ -38,7 +38,7 @@ fn main() {
 fn tell(answer: Answer) {
     match answer {
         Answer::Taken(m, _, _) => tell_number(b"taken, string ", m),
-        Answer::Refused(why) => tell_number(b"refused, number ", strings::number_of(why)),
+        Answer::Refused(why) => tell_number(b"refused, number ", strings::refusal_number(why)),
     }
 }
 

@@ -6,7 +6,7 @@ use mathlib.Core.Path.{_≡_, refl, sym, ap₂, _∙_}
 use lib.ListN.{set, replicate}
 use Rattle.strings.specs.Number.{numberOf, paddingOf, misshapen, wordOf, flip, stringBytes}
 use Rattle.relative.specs.Relative.{readRelative, writeRelative}
-use Rattle.strings.specs.Hamming.{position, sumC, sumAll, syndrome, howMany, highest, placed, judge, ruling, mended, sumsMade, encode}
+use Rattle.strings.specs.Hamming.{position, sumC, sumAll, syndrome, sumsSet, highest, placed, judge, ruling, mended, sumsMade, encode}
 use Rattle.strings.specs.Numbers.{answerOf}
 use Rattle.words.specs.Layout.{layout}
 use Rattle.words.specs.Values.{valuesOf, firstBad}
@@ -232,7 +232,7 @@ pub record Witness : Type 0 where
   pub record-channel : answerOf (recordTests goodEntry 24) [] ≡ 1 ∷ []
 
 pub witness : Witness
-unfolding whole inBytes sent sentDamaged one two three four five six1 seven fourteen fifteen six2 sixAbove sixGood fiveNext twoIll damaged numberOf paddingOf misshapen wordOf flip stringBytes readRelative writeRelative position sumC sumAll syndrome howMany highest placed judge ruling mended sumsMade encode layout valuesOf firstBad entryOf greater isGood dayOf isShown threeOf shownBy emptyBook joined joinedShown oneMore isPresent holdsFrame hasRecord emptyRow newFrame stored heldWith counted takenRow frameBy brought heldAfter freshStation noRow stationAfter stationReset judged healthBy callsOn saidAfter stationOf half entry twoFrames twoChannels greaterLast greaterFirst tiedRows tiedBook nextDay sixLast recordAlone goodEntry illEntry illRecord
+unfolding whole inBytes sent sentDamaged one two three four five six1 seven fourteen fifteen six2 sixAbove sixGood fiveNext twoIll damaged numberOf paddingOf misshapen wordOf flip stringBytes readRelative writeRelative position sumC sumAll syndrome sumsSet highest placed judge ruling mended sumsMade encode layout valuesOf firstBad entryOf greater isGood dayOf isShown threeOf shownBy emptyBook joined joinedShown oneMore isPresent holdsFrame hasRecord emptyRow newFrame stored heldWith counted takenRow frameBy brought heldAfter freshStation noRow stationAfter stationReset judged healthBy callsOn saidAfter stationOf half entry twoFrames twoChannels greaterLast greaterFirst tiedRows tiedBook nextDay sixLast recordAlone goodEntry illEntry illRecord
 witness =
     record {
       six2-sent = refl;

@@ -27,8 +27,8 @@ keptFour i = stringAt (i .strings) 0 ∷ stringAt (i .strings) 1 ∷ stringAt (i
 unfoldable pub hasRecord : Immediate → Bool
 hasRecord i = areGood (i .strings)
 
-unfoldable pub recordOf : Immediate → List ℕ
-recordOf i = pick (hasRecord i) (keptFour i) []
+unfoldable pub recordIn : Immediate → List ℕ
+recordIn i = pick (hasRecord i) (keptFour i) []
 
 -- "they become the channel's immediate record": where they do, of the bytes of a frame's strings
 abbrev pub recordBy : Bool → List ℕ → Immediate → Immediate

@@ -21,7 +21,7 @@ fn kind_by(n: u8) -> Kind {
 fn written(w: Written) -> u8 {
     match w {
         Written::Done => 0,
-        Written::Refused(why) => strings::number_of(why),
+        Written::Refused(why) => strings::refusal_number(why),
     }
 }
 
@@ -35,7 +35,7 @@ pub extern "C" fn measured_relative(s: &[u8], out: &mut [u8]) -> u8 {
 pub extern "C" fn measured_check(s: &[u8], out: &mut [u8]) -> u8 {
     let checked = strings::check(s, out);
     match checked {
-        Checked::Refused(why) => 128 | strings::number_of(why),
+        Checked::Refused(why) => 128 | strings::refusal_number(why),
         Checked::Taken(v) => repaired(v),
     }
 }
@@ -52,7 +52,7 @@ fn repaired(v: Verdict) -> u8 {
 pub extern "C" fn measured_read(s: &[u8], kind: u8, out: &mut [i32; 8]) -> u8 {
     let read = words::read_words(s, kind_by(kind));
     match read {
-        Reading::Refused(why) => 128 | strings::number_of(why),
+        Reading::Refused(why) => 128 | strings::refusal_number(why),
         Reading::Read(m, r) => {
             *out = records::list_of(r);
             m

@@ -9,7 +9,7 @@ ghost use lib.ListN.{length};
 fn told(a: Answer) -> u8 {
     match a {
         Answer::Taken(m, _, _) => m,
-        Answer::Refused(why) => strings::number_of(why),
+        Answer::Refused(why) => strings::refusal_number(why),
     }
 }
 

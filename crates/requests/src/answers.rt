@@ -16,7 +16,7 @@ pub fn say_no(text: &mut Text, r: Refusal) -> usize
     ensures { λ n. ⌜ n ≤ 512 ⌝ }
 {
     let no = put_text(text, 0, b"no");
-    let end = put_next(text, no, strings::number_of(r) as u64);
+    let end = put_next(text, no, strings::refusal_number(r) as u64);
     match r {
         Refusal::Range(place) => put_next(text, end, place as u64),
         _ => end,

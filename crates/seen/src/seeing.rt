@@ -22,7 +22,7 @@ pub fn number_told(a: Answer) -> u8
 {
     match a {
         Answer::Taken(_, _, _) => 0,
-        Answer::Refused(why) => strings::number_of(why),
+        Answer::Refused(why) => strings::refusal_number(why),
     }
 }
 

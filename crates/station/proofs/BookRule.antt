@@ -118,9 +118,9 @@ record Newly (call : Call) (cs : List Call) (k : ℕ) (u : Three) : Type 0 where
   served : isNoChannel (channelOf call) ≡ false
   at : At-pair (heldAfter (itself call ∷ callsOn (channelOf call) cs)) pairs k u
 
-part-split : (now : OnChannel) (l m : List OnChannel) → Part m (now ∷ l) → (m ≡ now ∷ l) ⊎ Part m l
-part-split now l m (whole cs) = inl refl
-part-split now l m (earlier n p cs q) = inr q
+part-split : (call : OnChannel) (l m : List OnChannel) → Part m (call ∷ l) → (m ≡ call ∷ l) ⊎ Part m l
+part-split call l m (whole cs) = inl refl
+part-split call l m (earlier n p cs q) = inr q
 
 module _ (call : Call) (cs : List Call) (k : ℕ) (u : Three) where
   shown-kept : ShownIn cs k u → ShownIn (call ∷ cs) k u

@@ -22,7 +22,7 @@ use Rattle.book.proofs.Joins.{Full, empty-full}
 use Rattle.channel.specs.declared.Row.{Row}
 use Rattle.tallies.specs.declared.Tallies.{Tallies}
 use Rattle.channel.specs.Frame.{isHere}
-use Rattle.immediate.specs.Kept.{hasRecord, recordOf, keptFour}
+use Rattle.immediate.specs.Kept.{hasRecord, recordIn, keptFour}
 use Rattle.channel.specs.Row.{frameOf, emptyRow}
 use Rattle.hearing.specs.Hears.{wholeOf}
 use Rattle.channel.specs.Offers.{isTaken, OnlyCounted, offeredRow, storesIt}
@@ -195,12 +195,12 @@ not-unknown b c = by (eqb b 0 && eqb c 1)
     by false q = let z : _≡_ {A = ℕ} 0 1 = cc in omega arith
 
 module _ (cs : List Call) (st : Station) (run : Runs cs st) (c : ℕ) (e : isNoChannel c ≡ false) where
-  kept-is : recordOf (keptAt st c) ≡ recordAfter (callsOn c cs)
+  kept-is : recordIn (keptAt st c) ≡ recordAfter (callsOn c cs)
   kept-is = record-is (callsOn c cs) (rowAt st c) (in-step cs st run .run c e)
 
   -- a record, and an entry for its n, in the station: so the calls give them
   known-there : hasRecord (keptAt st c) ≡ true → isSlot (satelliteOf (keptAt st c)) ≡ true → isEmpty (st .book) (satelliteOf (keptAt st c)) ≡ false → KnownIn cs c
-  unfolding recordOf
+  unfolding recordIn
   known-there h l n =
       let i = keptAt st c in
       let k = satelliteOf i in
@@ -223,7 +223,7 @@ module _ (cs : List Call) (st : Station) (run : Runs cs st) (c : ℕ) (e : isNoC
 
     -- there is a record, and it is those four strings
     there : (hasRecord (keptAt st c) ≡ true) × (keptFour (keptAt st c) ≡ w .one ∷ w .two ∷ w .three ∷ w .four ∷ [])
-    unfolding recordOf
+    unfolding recordIn
     there = by (hasRecord (keptAt st c)) refl (kept-is ∙ w .kept)
       where
         by : (t : Bool) → hasRecord (keptAt st c) ≡ t → pick t (keptFour (keptAt st c)) [] ≡ w .one ∷ w .two ∷ w .three ∷ w .four ∷ []

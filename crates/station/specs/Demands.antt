@@ -12,7 +12,7 @@ use Rattle.strings.specs.Calls.{writtenPaper}
 use Rattle.book.specs.Entry.{Three, meaning}
 use Rattle.book.specs.Book.{inSlot}
 use Rattle.tallies.specs.Tallies.{isOffer, isClean, isRepaired, isRefused, limit, howMany}
-use Rattle.immediate.specs.Kept.{recordOf}
+use Rattle.immediate.specs.Kept.{recordIn}
 use Rattle.channel.specs.Offers.{answerPaper, isTaken, OnlyCounted}
 use Rattle.channel.specs.History.{heldAfter, outcomes, recordAfter}
 use Rattle.channel.specs.Relock.{Heard, FirstOf15, NothingElse, Once, GoodTaken}
@@ -50,7 +50,7 @@ pub record Answered (cs : List Call) (st : Station) : Type 0 where
 -- ---- demand 2: "The four tallies are the true counts since the channel's reset, and stay at 65,535 once there"; and what a row holds besides
 pub record Counted (cs : List Call) (st : Station) (c : ℕ) : Type 0 where
   pub frame : heldAt st c ≡ heldAfter (callsOn c cs)
-  pub kept : recordOf (keptAt st c) ≡ recordAfter (callsOn c cs)
+  pub kept : recordIn (keptAt st c) ≡ recordAfter (callsOn c cs)
   pub offered : rowAt st c .tallies .offered ≡ min limit (howMany isOffer (outcomes (callsOn c cs)))
   pub clean : rowAt st c .tallies .clean ≡ min limit (howMany isClean (outcomes (callsOn c cs)))
   pub repaired : rowAt st c .tallies .repaired ≡ min limit (howMany isRepaired (outcomes (callsOn c cs)))

@@ -47,7 +47,7 @@ saidAfter cs call = pick (isNoChannel (channelOf call)) (1 ∷ []) (saidOn (itse
 -- the parts of a history up to each of its moments
 pub data Part : List OnChannel → List OnChannel → Type 0 where
   whole : (cs : List OnChannel) → Part cs cs
-  earlier : (now : OnChannel) (part cs : List OnChannel) → Part part cs → Part part (now ∷ cs)
+  earlier : (call : OnChannel) (part cs : List OnChannel) → Part part cs → Part part (call ∷ cs)
 
 -- the first strings of the pairs
 abbrev pub pairs : List ℕ

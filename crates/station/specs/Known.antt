@@ -11,7 +11,7 @@ use Rattle.strings.specs.declared.hamming.Damage.the-variants.{Unplaced, Even, 
 use Rattle.strings.specs.declared.hamming.Ruling.the-variants.{Sound, Damaged}
 use Rattle.strings.specs.Number.{numberOf, paddingOf, misshapen, wordOf, flip, stringBytes}
 use Rattle.relative.specs.Relative.{readRelative, writeRelative, inverse}
-use Rattle.strings.specs.Hamming.{position, sumC, sumAll, syndrome, howMany, highest, placed, judge, ruling, mended, encode}
+use Rattle.strings.specs.Hamming.{position, sumC, sumAll, syndrome, sumsSet, highest, placed, judge, ruling, mended, encode}
 use Rattle.strings.specs.Numbers.{firstOf, answerOf}
 use Rattle.strings.specs.Known.{A, zeros, a, known as strings-known}
 use Rattle.relative.specs.Known.{B, inverseB, known as relative-known}
@@ -75,7 +75,7 @@ unfolding numberOf stringBytes inverse
 B-inverted-so = refl
 
 zeros-offered-so : (c epoch : ℕ) → isNoChannel c ≡ false → answerOf (stationTests freshStation c epoch zeros) (toldIn freshStation c epoch zeros) ≡ 5 ∷ []
-unfolding numberOf paddingOf misshapen wordOf readRelative position sumC sumAll syndrome howMany highest placed judge ruling mended
+unfolding numberOf paddingOf misshapen wordOf readRelative position sumC sumAll syndrome sumsSet highest placed judge ruling mended
 zeros-offered-so c epoch served = rw served refl
 
 pub known-strings : KnownStrings

@@ -14,7 +14,7 @@ use Rattle.strings.specs.declared.hamming.Ruling.{Ruling}
 use Rattle.strings.specs.declared.hamming.Ruling.the-variants.{Sound, Damaged}
 use Rattle.strings.specs.Pick.{pick}
 use Rattle.strings.specs.Number.{flip}
-use Rattle.strings.specs.Hamming.{position, syndrome, sumAll, howMany, highest, placed, judge, ruling, isDamaged, mended, Encoded}
+use Rattle.strings.specs.Hamming.{position, syndrome, sumAll, sumsSet, highest, placed, judge, ruling, isDamaged, mended, Encoded}
 use Rattle.strings.proofs.Below.{and-left, and-right, below, below-at}
 use Rattle.strings.proofs.Digits.{xor-same}
 use Rattle.strings.proofs.Sums.{syndrome-linear, syndrome-lt, sumAll-lt, position-lt, one-syndrome, flip-all}
@@ -53,7 +53,7 @@ oneTest : ℕ → Bool
 oneTest j = named (suc j) (judge (position (suc j)) 1)
 
 ones : T (below 85 oneTest)
-unfolding oneTest position judge placed highest howMany
+unfolding oneTest position judge placed highest sumsSet
 ones = tt
 
 one-bit : (i : ℕ) → 1 ≤ i → i ≤ 85 → T (named i (judge (position i) 1))
@@ -136,7 +136,7 @@ fair s c (Sound (Repaired i)) = eqb s (position i) && eqb c 1
 fair s c (Damaged d) = true
 
 fairs : T (below 2 (λ c. below 128 (λ s. fair s c (judge s c))))
-unfolding position judge placed highest howMany
+unfolding position judge placed highest sumsSet
 fairs = tt
 
 is-fair : (n : ℕ) → T (fair (syndrome n) (sumAll n) (ruling n))

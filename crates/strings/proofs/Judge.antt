@@ -11,7 +11,7 @@ use Rattle.strings.specs.declared.Verdict.{Verdict}
 use Rattle.strings.specs.declared.Verdict.the-variants.{Clean, Repaired}
 use Rattle.strings.specs.declared.hamming.Ruling.{Ruling}
 use Rattle.strings.specs.declared.hamming.Ruling.the-variants.{Sound, Damaged}
-use Rattle.strings.specs.Hamming.{syndrome, sumAll, highest, howMany, placed, judge, ruling, mendedBy, mended, NamesBit}
+use Rattle.strings.specs.Hamming.{syndrome, sumAll, highest, sumsSet, placed, judge, ruling, mendedBy, mended, NamesBit}
 use Rattle.strings.proofs.Below.{and-left, and-right, below, below-at}
 use Rattle.strings.proofs.Digits.{flip-lt}
 use Rattle.strings.proofs.Sums.{syndrome-lt, sumAll-lt}
@@ -24,25 +24,25 @@ beq→eq false false t = refl
 
 -- exactly one sum is set where S is the weight of the highest; more, where S is neither that nor 0
 pub record Weighed (s : ℕ) : Type 0 where
-  pub one : eqb (howMany s) 1 ≡ eqb s (2 ^ (highest s - 1))
-  pub more : leb 2 (howMany s) ≡ (not (eqb s 0) && not (eqb s (2 ^ (highest s - 1))))
+  pub one : eqb (sumsSet s) 1 ≡ eqb s (2 ^ (highest s - 1))
+  pub more : leb 2 (sumsSet s) ≡ (not (eqb s 0) && not (eqb s (2 ^ (highest s - 1))))
   pub least : 1 ≤ highest s
   pub most : highest s ≤ 7
 
 abbrev weightTest : ℕ → Bool
 weightTest s =
     let w = eqb s (2 ^ (highest s - 1)) in
-    Bool·beq (eqb (howMany s) 1) w && (Bool·beq (leb 2 (howMany s)) (not (eqb s 0) && not w) && (leb 1 (highest s) && leb (highest s) 7))
+    Bool·beq (eqb (sumsSet s) 1) w && (Bool·beq (leb 2 (sumsSet s)) (not (eqb s 0) && not w) && (leb 1 (highest s) && leb (highest s) 7))
 
 weights : T (below 128 weightTest)
-unfolding highest howMany
+unfolding highest sumsSet
 weights = tt
 
 pub weighed : (s : ℕ) → s < 128 → Weighed s
 weighed s h =
     let w = eqb s (2 ^ (highest s - 1)) in
-    let a = Bool·beq (eqb (howMany s) 1) w in
-    let b = Bool·beq (leb 2 (howMany s)) (not (eqb s 0) && not w) in
+    let a = Bool·beq (eqb (sumsSet s) 1) w in
+    let b = Bool·beq (leb 2 (sumsSet s)) (not (eqb s 0) && not w) in
     let c = leb 1 (highest s) in
     let d = leb (highest s) 7 in
     let t = below-at 128 weightTest weights s h in
@@ -66,7 +66,7 @@ namedTest (Sound (Repaired i)) = leb 1 i && leb i 85
 namedTest (Damaged d) = true
 
 names : T (below 2 (λ c. below 128 (λ s. namedTest (judge s c))))
-unfolding judge placed highest howMany
+unfolding judge placed highest sumsSet
 names = tt
 
 named-verdict : (v : Verdict) → T (namedTest (Sound v)) → NamesBit v

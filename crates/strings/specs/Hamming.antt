@@ -43,8 +43,8 @@ unfoldable pub syndrome : ℕ → ℕ
 syndrome n = fromBits (λ k. sumC k n) 7
 
 -- how many of C1..C7 are set; C_k is bit k of S
-unfoldable pub howMany : ℕ → ℕ
-howMany s = addUp (λ k. 1) s 7
+unfoldable pub sumsSet : ℕ → ℕ
+sumsSet s = addUp (λ k. 1) s 7
 
 -- "K being the highest set sum", of an S that is not 0
 unfoldable pub highest : ℕ → ℕ
@@ -66,8 +66,8 @@ placed i = pick (leb i 85) (Sound (Repaired i)) (Damaged Outside)
 unfoldable pub judge : ℕ → ℕ → Ruling
 judge s c =
     pick (eqb s 0 && eqb c 0) (Sound Clean)
-    (pick (eqb c 1 && eqb (howMany s) 1) (Sound (Repaired (highest s)))
-    (pick (eqb c 1 && leb 2 (howMany s)) (placed (s + 8 - highest s))
+    (pick (eqb c 1 && eqb (sumsSet s) 1) (Sound (Repaired (highest s)))
+    (pick (eqb c 1 && leb 2 (sumsSet s)) (placed (s + 8 - highest s))
     (pick (eqb c 0) (Damaged Even) (Damaged Unplaced))))
 
 -- the ruling on a string

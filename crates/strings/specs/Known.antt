@@ -7,7 +7,7 @@ use Rattle.strings.specs.declared.Verdict.the-variants.{Clean, Repaired}
 use Rattle.strings.specs.declared.hamming.Damage.the-variants.{Unplaced, Even, Outside}
 use Rattle.strings.specs.declared.hamming.Ruling.the-variants.{Sound, Damaged}
 use Rattle.strings.specs.Number.{numberOf, flip, stringBytes}
-use Rattle.strings.specs.Hamming.{position, sumC, sumAll, syndrome, howMany, highest, placed, judge, ruling, sumsMade, encode}
+use Rattle.strings.specs.Hamming.{position, sumC, sumAll, syndrome, sumsSet, highest, placed, judge, ruling, sumsMade, encode}
 
 abbrev pub A : List ℕ
 A = 0x08 ∷ 0 ∷ 0 ∷ 0 ∷ 0 ∷ 0 ∷ 0 ∷ 0 ∷ 0 ∷ 0x06 ∷ 0x80 ∷ []
@@ -42,7 +42,7 @@ pub record Known : Type 0 where
   pub zeros-clean : ruling (numberOf zeros) ≡ Sound Clean
 
 pub known : Known
-unfolding a numberOf flip stringBytes position sumC sumAll syndrome howMany highest placed judge ruling sumsMade encode
+unfolding a numberOf flip stringBytes position sumC sumAll syndrome sumsSet highest placed judge ruling sumsMade encode
 known =
     record {
       A-bits = refl;

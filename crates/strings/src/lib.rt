@@ -14,7 +14,7 @@ pub use hamming::Damage;
 pub use hamming::Ruling;
 pub use hamming::examine;
 pub use hamming::make_check_bits;
-pub use numbers::number_of;
+pub use numbers::refusal_number;
 
 // The numbers that say no, in the paper's order. RANGE tells its place: the top bit number of the
 // word that failed.

@@ -5,7 +5,7 @@ ghost use lib.ListN.{getD};
 ghost use Rattle.strings.specs.Numbers.{refusalPaper};
 
 // The number of a refusal.
-pub fn number_of(r: Refusal) -> u8
+pub fn refusal_number(r: Refusal) -> u8
     ensures { λ n. ⌜ n ≡ getD (refusalPaper r) 0 0 ⌝ }
 {
     match r {

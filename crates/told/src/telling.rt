@@ -49,7 +49,7 @@ fn news_told(news: News) -> u8
 fn refusal_told(why: Refusal) -> u16
     ensures { λ r. ⌜ r ≡ packed (refusalPaper why) ⌝ }
 {
-    pair(strings::number_of(why), place_in(why))
+    pair(strings::refusal_number(why), place_in(why))
 }
 
 // The place, 0 where there is none.

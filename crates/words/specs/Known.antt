@@ -4,7 +4,7 @@ use mathlib.Core.Path.{_≡_, refl}
 use mathlib.Core.Bool.{false}
 use lib.IntN.{pos, negsuc}
 use Rattle.strings.specs.Number.{numberOf, paddingOf, misshapen, wordOf}
-use Rattle.strings.specs.Hamming.{position, sumC, sumAll, syndrome, howMany, highest, placed, judge, ruling, mended}
+use Rattle.strings.specs.Hamming.{position, sumC, sumAll, syndrome, sumsSet, highest, placed, judge, ruling, mended}
 use Rattle.strings.specs.Numbers.{firstOf}
 use Rattle.strings.specs.Known.{zeros}
 use Rattle.records.specs.declared.kinds.Kind.{Kind}
@@ -29,7 +29,7 @@ pub record Known : Type 0 where
   pub H-24 : inRange (word Carrier 14 10) (valueIn (word Carrier 14 10) 24) ≡ false
 
 pub known : Known
-unfolding numberOf paddingOf misshapen wordOf position sumC sumAll syndrome howMany highest placed judge ruling mended
+unfolding numberOf paddingOf misshapen wordOf position sumC sumAll syndrome sumsSet highest placed judge ruling mended
 known =
     record {
       zeros-number = λ k. refl;

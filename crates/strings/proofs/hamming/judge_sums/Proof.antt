@@ -4,7 +4,7 @@ use Prim.Native.Nat.{ℕ, _-_, _^_}
 use native.Mathlib.Omega.{arith}
 use borrow.Author.Needs.{needs}
 use borrow.Author.Tests.{eq-eqb, ne-eqb}
-use Rattle.strings.specs.Hamming.{highest, howMany, judge}
+use Rattle.strings.specs.Hamming.{highest, sumsSet, judge}
 use Rattle.strings.proofs.Judge.{Weighed, weighed, shifted}
 use Rattle.strings.proofs.hamming.judge_sums.Statement.{statement}
 use Rattle.strings.proofs.hamming.judge_sums.Tie as tie
@@ -25,7 +25,7 @@ unfolding judge
 returns-2 c = simp (c .before .if1 .taken, ne-eqb _ _ (c .if2 .left))
 
 returns-3 : tie.Need-returns-3
-unfolding judge howMany
+unfolding judge sumsSet
 returns-3 c =
     let e : c .before .before .args .c ≡ 1 = omega arith in
     rw (e, c .if3 .taken)

@@ -8,8 +8,8 @@ use borrow.Author.Needs.{needs}
 use Rattle.told.proofs.telling.refusal_told.Statement.{statement}
 use Rattle.told.proofs.telling.refusal_told.Tie as tie
 
-number-of-requires : tie.Need-number-of-requires
-number-of-requires c κs = search needs
+refusal-number-requires : tie.Need-refusal-number-requires
+refusal-number-requires c κs = search needs
 
 place-in-requires : tie.Need-place-in-requires
 place-in-requires c κs = search needs
@@ -20,8 +20,8 @@ pair-requires c κs = search needs
 returns : tie.Need-returns
 returns c =
     c .pair .ensures
-    ∙ ap₂ (λ (n : ℕ) (p : ℕ). packed (n ∷ p ∷ [])) (c .before .before .number-of .ensures) (c .before .place-in .ensures)
+    ∙ ap₂ (λ (n : ℕ) (p : ℕ). packed (n ∷ p ∷ [])) (c .before .before .refusal-number .ensures) (c .before .place-in .ensures)
     ∙ refusal-packed (c .before .before .before .args .why)
 
 pub refusal-told-spec : {M : Type 1} → statement M
-refusal-told-spec = tie.close (tie.spec number-of-requires place-in-requires pair-requires returns)
+refusal-told-spec = tie.close (tie.spec refusal-number-requires place-in-requires pair-requires returns)
