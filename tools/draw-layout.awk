@@ -1,5 +1,5 @@
 # draw-layout.awk: the eight kinds of string as bit maps, drawn from the table that reader and encoder use
-# (crates/words/src/table.rt). A word is a box over its bits, "s" where it has a sign; bits 80 to 9 in no word are reserved.
+# (crates/layout/src/table.rt). A word is a box over its bits, "s" where it has a sign; bits 80 to 9 in no word are reserved.
 BEGIN {
     bit = 12; left = 150; top = 20; row = 44; tall = 26
 }

@@ -7,7 +7,7 @@ use Rattle.strings.specs.Pick.{pick}
 use Rattle.records.specs.declared.kinds.Kind.the-variants.{Even, Odd}
 use Rattle.records.specs.declared.named.EvenString.{EvenString}
 use Rattle.records.specs.declared.named.OddString.{OddString}
-use Rattle.words.specs.Layout.{layout}
+use Rattle.layout.specs.Layout.{layout}
 use Rattle.words.specs.Values.{valuesOf}
 use Rattle.records.specs.Records.{evenOf, oddOf}
 use Rattle.book.specs.declared.Entry.{Entry}

@@ -7,7 +7,7 @@ use Rattle.strings.specs.Pick.{pick}
 use Rattle.strings.specs.Number.{wordOf}
 use Rattle.records.specs.declared.kinds.Kind.{Kind}
 use Rattle.records.specs.declared.kinds.Kind.the-variants.{Five, Even, Odd}
-use Rattle.words.specs.Layout.{layout}
+use Rattle.layout.specs.Layout.{layout}
 use Rattle.words.specs.Values.{valuesOf, firstBad}
 use Rattle.book.specs.declared.Shown.{Shown}
 use Rattle.book.specs.declared.Shown.the-variants.{Nothing, At}

@@ -15,7 +15,7 @@ use Rattle.strings.specs.Pick.{pick}
 use Rattle.strings.specs.Number.{numberOf, wordOf, stringBytes}
 use Rattle.strings.specs.Numbers.{firstOf}
 use Rattle.words.specs.Calls.{numberIn}
-use Rattle.words.specs.Layout.{layout}
+use Rattle.layout.specs.Layout.{layout}
 use Rattle.words.specs.Values.{valuesOf, firstBad}
 use Rattle.words.specs.Immediate.{stringAt}
 use Rattle.book.specs.Shows.{isGood}

@@ -8,7 +8,7 @@ use Rattle.strings.specs.Number.{numberOf, paddingOf, misshapen, wordOf, flip, 
 use Rattle.relative.specs.Relative.{readRelative, writeRelative}
 use Rattle.strings.specs.Hamming.{position, sumC, sumAll, syndrome, sumsSet, highest, placed, judge, ruling, mended, sumsMade, encode}
 use Rattle.strings.specs.Numbers.{answerOf}
-use Rattle.words.specs.Layout.{layout}
+use Rattle.layout.specs.Layout.{layout}
 use Rattle.words.specs.Values.{valuesOf, firstBad}
 use Rattle.book.specs.declared.Book.{Book}
 use Rattle.book.specs.Entry.{Three, meaning, entryOf, blank, greater}

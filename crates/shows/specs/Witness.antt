@@ -6,7 +6,7 @@ use mathlib.Core.Path.{_≡_, refl}
 use Rattle.strings.specs.Number.{numberOf, paddingOf, misshapen, wordOf, flip, stringBytes}
 use Rattle.relative.specs.Relative.{readRelative}
 use Rattle.strings.specs.Hamming.{position, sumC, sumAll, syndrome, sumsSet, highest, placed, judge, ruling, mended}
-use Rattle.words.specs.Layout.{layout}
+use Rattle.layout.specs.Layout.{layout}
 use Rattle.words.specs.Values.{valuesOf, firstBad}
 use Rattle.book.specs.declared.Shown.the-variants.{Nothing, At}
 use Rattle.book.specs.Entry.{entryOf}

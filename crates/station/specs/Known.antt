@@ -16,8 +16,8 @@ use Rattle.strings.specs.Numbers.{firstOf, answerOf}
 use Rattle.strings.specs.Known.{A, zeros, a, known as strings-known}
 use Rattle.relative.specs.Known.{B, inverseB, known as relative-known}
 use Rattle.records.specs.declared.kinds.Kind.{Kind}
-use Rattle.words.specs.declared.table.Form.the-variants.{Carrier}
-use Rattle.words.specs.Layout.{word}
+use Rattle.layout.specs.declared.table.Form.the-variants.{Carrier}
+use Rattle.layout.specs.Layout.{word}
 use Rattle.words.specs.Calls.{readTests}
 use Rattle.words.specs.Values.{valueIn, inRange}
 use Rattle.words.specs.Signed.{signedAt}

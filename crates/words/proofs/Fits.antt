@@ -15,15 +15,15 @@ use lib.Pow.{pow-add, pow-mono, pow-pos}
 use lib.Signed.{leZ, nonNeg, pos-natAbs}
 use Rattle.strings.specs.Pick.{pick}
 use Rattle.strings.proofs.Below.{and-left, and-right}
-use Rattle.words.specs.declared.table.Form.{Form}
-use Rattle.words.specs.declared.table.Form.the-variants.{Plain, Signed, Time, Interval, Day, Slot, Carrier}
-use Rattle.words.specs.declared.table.Word.{Word}
+use Rattle.layout.specs.declared.table.Form.{Form}
+use Rattle.layout.specs.declared.table.Form.the-variants.{Plain, Signed, Time, Interval, Day, Slot, Carrier}
+use Rattle.layout.specs.declared.table.Word.{Word}
 use Rattle.records.specs.declared.kinds.Kind.{Kind}
-use Rattle.words.specs.Layout.{layout, none}
+use Rattle.layout.specs.Layout.{layout, none, width}
 use Rattle.words.specs.Signed.{codeAt}
-use Rattle.words.specs.Values.{width, carrierCode, codeIn, leastOf, mostOf, inRange, firstBad, dataOf}
-use Rattle.words.proofs.EveryKind.{kinds, every, every-kind}
-use Rattle.words.proofs.Rows.{layout-long}
+use Rattle.words.specs.Values.{carrierCode, codeIn, leastOf, mostOf, inRange, firstBad, dataOf}
+use Rattle.layout.proofs.EveryKind.{kinds, every, every-kind}
+use Rattle.layout.proofs.Rows.{layout-long}
 
 -- ---- the laws of one word, by a test that is computed for each word of the table
 pub and-both : (a b : Bool) → (a && b) ≡ true → (a ≡ true) × (b ≡ true)

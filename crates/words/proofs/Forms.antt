@@ -9,11 +9,11 @@ use native.Mathlib.Omega.{arith}
 use lib.IntN.{ℤ, pos, natAbs}
 use types.Run.{OneOf}
 use denote.Enum.Declared.{tagOf}
-use Rattle.words.specs.declared.table.Form.{Form}
-use Rattle.words.specs.declared.table.Form.the-variants.{Plain, Signed, Time, Interval, Day, Slot, Carrier}
+use Rattle.layout.specs.declared.table.Form.{Form}
+use Rattle.layout.specs.declared.table.Form.the-variants.{Plain, Signed, Time, Interval, Day, Slot, Carrier}
 use Rattle.words.specs.Tidied.{isSigned}
 use Rattle.words.specs.Values.{valueAs, codeAs}
-use Rattle.words.proofs.table.Form.{the-type}
+use Rattle.layout.proofs.table.Form.{the-type}
 
 pub record Bare (f : Form) : Type 0 where
   pub unsigned : isSigned f ≡ false

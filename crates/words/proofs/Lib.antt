@@ -1,8 +1,7 @@
-pub mod EveryKind
 pub mod Forms
 pub mod Sign
 pub mod WordBits
-pub mod Rows
+pub mod Loops
 pub mod Carrying
 pub mod Fits
 pub mod Trip

@@ -21,23 +21,23 @@ use Rattle.strings.specs.Number.{numberOf, misshapen, wordOf}
 use Rattle.strings.specs.Hamming.{ruling, isDamaged, mended}
 use Rattle.strings.specs.Calls.{noRoom, isIdle}
 use Rattle.strings.proofs.Below.{and-left, and-right, below, below-at, unfit}
-use Rattle.words.specs.declared.table.Form.{Form}
-use Rattle.words.specs.declared.table.Form.the-variants.{Plain, Signed, Time, Interval, Day, Slot, Carrier}
-use Rattle.words.specs.declared.table.Word.{Word}
+use Rattle.layout.specs.declared.table.Form.{Form}
+use Rattle.layout.specs.declared.table.Form.the-variants.{Plain, Signed, Time, Interval, Day, Slot, Carrier}
+use Rattle.layout.specs.declared.table.Word.{Word}
 use Rattle.records.specs.declared.kinds.Kind.{Kind}
 use Rattle.records.specs.declared.kinds.Kind.the-variants.{One, Two, Three, Four, Five, Even, Odd, Fourteen}
 use Rattle.records.specs.declared.named.Record.{Record}
 use Rattle.words.specs.declared.reading.Reading.the-variants.{Refused}
-use Rattle.words.specs.Layout.{layout, none, word, ofKind}
+use Rattle.layout.specs.Layout.{layout, none, word, ofKind}
 use Rattle.words.specs.Signed.{signedAt}
 use Rattle.words.specs.Values.{valueIn, leastOf, mostOf, isTime, isTk, inRange, valuesOf, firstBad}
 use Rattle.records.specs.Records.{kindOf, listOf}
 use Rattle.words.specs.Calls.{numberIn, Reads, Writes}
 use Rattle.words.specs.Tidied.{wordAt, bitsIn}
-use Rattle.words.proofs.EveryKind.{kinds, every, every-kind}
+use Rattle.layout.proofs.EveryKind.{kinds, every, every-kind}
 use Rattle.words.proofs.Forms.{and-all}
 use Rattle.words.proofs.WordBits.{word-lt}
-use Rattle.words.proofs.Rows.{layout-long}
+use Rattle.layout.proofs.Rows.{layout-long}
 use Rattle.words.proofs.Fits.{and-both, is-true, sound-at, range-at, layout-laid}
 use Rattle.words.proofs.Trip.{kind-values-long}
 use Rattle.words.proofs.RecordLists.{list-long}

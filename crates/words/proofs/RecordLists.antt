@@ -15,10 +15,10 @@ use Rattle.records.specs.declared.kinds.Kind.{Kind}
 use Rattle.records.specs.declared.kinds.Kind.the-variants.{One, Two, Three, Four, Five, Even, Odd, Fourteen}
 use Rattle.records.specs.declared.named.Record.{Record}
 use Rattle.records.specs.declared.named.Record.the-variants.{One as One′, Two as Two′, Three as Three′, Four as Four′, Five as Five′, Even as Even′, Odd as Odd′, Fourteen as Fourteen′}
-use Rattle.words.specs.Layout.{layout, kindNumber, ofKind}
+use Rattle.layout.specs.Layout.{layout, kindNumber, ofKind}
 use Rattle.words.specs.Values.{valuesOf, firstBad, dataOf}
 use Rattle.records.specs.Records.{kindOf, listOf, recordOf}
-use Rattle.words.proofs.EveryKind.{kindAt, kind-back}
+use Rattle.layout.proofs.EveryKind.{kindAt, kind-back}
 use Rattle.words.proofs.Fits.{and-both, kind-data-lt}
 
 -- ---- a record is its kind and the list of its values

@@ -33,19 +33,20 @@ use Rattle.strings.proofs.Encode.{encode-encoded, encode-stays, encode-lt, enco
 use Rattle.strings.proofs.CheckRule.{Whole, encoded-clean}
 use Rattle.strings.proofs.Flips.{encoded-ruling}
 use Rattle.strings.proofs.Judge.{mended-by}
-use Rattle.words.specs.declared.table.Word.{Word}
+use Rattle.layout.specs.declared.table.Word.{Word}
 use Rattle.records.specs.declared.kinds.Kind.{Kind}
 use Rattle.records.specs.declared.named.Record.{Record}
 use Rattle.words.specs.declared.reading.Reading.{Reading}
 use Rattle.words.specs.declared.reading.Reading.the-variants.{Read, Refused}
-use Rattle.words.specs.Layout.{layout, none, kindNumber, ofKind}
-use Rattle.words.specs.Reserved.{inWords}
+use Rattle.layout.specs.Layout.{layout, none, kindNumber, ofKind}
+use Rattle.layout.specs.Reserved.{inWords}
 use Rattle.words.specs.Values.{valuesOf, firstBad, dataOf}
 use Rattle.records.specs.Records.{kindOf, listOf, recordOf}
 use Rattle.words.specs.Calls.{numberIn, readTests, readingPaper, readingWords, Reads, writeTests, stringOf, Writes}
 use Rattle.words.specs.Tidied.{wordAt, tidyWords, tidied, Tidy}
 use Rattle.words.proofs.RecordLists.{list-long, record-list, kind-same, of-kind}
-use Rattle.words.proofs.Rows.{layout-long, values-long}
+use Rattle.layout.proofs.Rows.{layout-long}
+use Rattle.words.proofs.Loops.{values-long}
 use Rattle.words.proofs.Fits.{and-both, data-lt, sound-at, layout-laid, kind-data-lt}
 use Rattle.words.proofs.Trip.{kind-values, kind-values-same, data-values, read-fit, bit-same, word-same, word-data, code-read, gap-data}
 

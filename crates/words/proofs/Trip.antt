@@ -20,21 +20,22 @@ use Rattle.strings.specs.Pick.{pick}
 use Rattle.strings.specs.Number.{wordOf, bitOf}
 use Rattle.strings.proofs.Below.{below, below-at}
 use Rattle.strings.proofs.Digits.{three}
-use Rattle.words.specs.declared.table.Form.{Form}
-use Rattle.words.specs.declared.table.Form.the-variants.{Plain, Signed, Time, Interval, Day, Slot, Carrier}
-use Rattle.words.specs.declared.table.Word.{Word}
+use Rattle.layout.specs.declared.table.Form.{Form}
+use Rattle.layout.specs.declared.table.Form.the-variants.{Plain, Signed, Time, Interval, Day, Slot, Carrier}
+use Rattle.layout.specs.declared.table.Word.{Word}
 use Rattle.records.specs.declared.kinds.Kind.{Kind}
-use Rattle.words.specs.Layout.{layout, none}
+use Rattle.layout.specs.Layout.{layout, none, width}
 use Rattle.words.specs.Signed.{signedAt, codeAt}
-use Rattle.words.specs.Values.{width, carrierOf, carrierCode, valueIn, codeIn, inRange, valuesOf, firstBad, dataOf}
-use Rattle.words.specs.Reserved.{inWords}
+use Rattle.words.specs.Values.{carrierOf, carrierCode, valueIn, codeIn, inRange, valuesOf, firstBad, dataOf}
+use Rattle.layout.specs.Reserved.{inWords}
 use Rattle.words.specs.Tidied.{isSigned, wordAt, bitsIn, tidyWord, tidyWords}
-use Rattle.words.proofs.EveryKind.{kinds, every, every-kind}
+use Rattle.layout.proofs.EveryKind.{kinds, every, every-kind}
 use Rattle.words.proofs.Forms.{Bare, plain-bare, time-bare, interval-bare, day-bare, slot-bare}
 use Rattle.words.proofs.Fits.{halfOf, plainTest, formTest, form-test, test-at, Sound, signed-near, carrier-wide, carrier-near, plain-pos}
 use Rattle.words.proofs.Fits.{laid, laid-of, top-laid, Fit, fit-rest, data-lt, range-at, range-fit, layout-laid}
 use Rattle.words.proofs.WordBits.{word-lt}
-use Rattle.words.proofs.Rows.{layout-long, values-long, values-at}
+use Rattle.layout.proofs.Rows.{layout-long}
+use Rattle.words.proofs.Loops.{values-long, values-at}
 
 -- ---- sign and magnitude, at any weight of the sign
 pub signed-back : (half : ℕ) (z : ℤ) → natAbs z < half → signedAt half (codeAt half z) ≡ z

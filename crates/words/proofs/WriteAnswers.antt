@@ -12,7 +12,7 @@ use Rattle.strings.specs.Number.{stringBytes}
 use Rattle.strings.proofs.Shape.{has-room, no-room}
 use Rattle.strings.proofs.Answer.{refuses, goes-on, takes}
 use Rattle.records.specs.declared.named.Record.{Record}
-use Rattle.words.specs.Layout.{layout, ofKind}
+use Rattle.layout.specs.Layout.{layout, ofKind}
 use Rattle.words.specs.Values.{firstBad}
 use Rattle.records.specs.Records.{kindOf, listOf}
 use Rattle.words.specs.Calls.{Writes, stringOf}

@@ -7,7 +7,7 @@ use Rattle.strings.specs.Number.{numberOf}
 use Rattle.records.specs.declared.kinds.Kind.the-variants.{One, Two, Three, Four}
 use Rattle.records.specs.declared.named.ImmediateWords.{ImmediateWords}
 use Rattle.records.specs.Records.{string1Of, string2Of, string3Of, string4Of}
-use Rattle.words.specs.Layout.{layout}
+use Rattle.layout.specs.Layout.{layout}
 use Rattle.words.specs.Values.{valuesOf}
 
 abbrev pub stringAt : List ℕ → ℕ → ℕ

@@ -8,8 +8,8 @@ use Rattle.strings.specs.Hamming.{position, sumC, sumAll, syndrome, sumsSet, hi
 use Rattle.strings.specs.Numbers.{firstOf}
 use Rattle.strings.specs.Known.{zeros}
 use Rattle.records.specs.declared.kinds.Kind.{Kind}
-use Rattle.words.specs.declared.table.Form.the-variants.{Carrier}
-use Rattle.words.specs.Layout.{word}
+use Rattle.layout.specs.declared.table.Form.the-variants.{Carrier}
+use Rattle.layout.specs.Layout.{word}
 use Rattle.words.specs.Calls.{readTests}
 use Rattle.words.specs.Values.{valueIn, inRange}
 use Rattle.words.specs.Signed.{signedAt}

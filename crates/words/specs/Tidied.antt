@@ -10,12 +10,12 @@ use lib.ListN.{getD}
 use Rattle.strings.specs.Pick.{pick}
 use Rattle.strings.specs.Number.{wordOf, bitOf}
 use Rattle.strings.specs.Hamming.{Encoded, encode}
-use Rattle.words.specs.declared.table.Form.{Form}
-use Rattle.words.specs.declared.table.Form.the-variants.{Plain, Signed, Time, Interval, Day, Slot, Carrier}
-use Rattle.words.specs.declared.table.Word.{Word}
+use Rattle.layout.specs.declared.table.Form.{Form}
+use Rattle.layout.specs.declared.table.Form.the-variants.{Plain, Signed, Time, Interval, Day, Slot, Carrier}
+use Rattle.layout.specs.declared.table.Word.{Word}
 use Rattle.records.specs.declared.kinds.Kind.{Kind}
-use Rattle.words.specs.Layout.{layout, none}
-use Rattle.words.specs.Reserved.{inWords}
+use Rattle.layout.specs.Layout.{layout, none}
+use Rattle.layout.specs.Reserved.{inWords}
 use Rattle.words.specs.Calls.{numberIn}
 
 -- the j-th word of a kind

@@ -8,13 +8,11 @@ use lib.IntN.{ℤ, pos, negsuc, negℤ, natAbs}
 use lib.Signed.{leZ}
 use Rattle.strings.specs.Pick.{pick}
 use Rattle.strings.specs.Number.{wordOf}
-use Rattle.words.specs.declared.table.Form.{Form}
-use Rattle.words.specs.declared.table.Form.the-variants.{Plain, Signed, Time, Interval, Day, Slot, Carrier}
-use Rattle.words.specs.declared.table.Word.{Word}
+use Rattle.layout.specs.declared.table.Form.{Form}
+use Rattle.layout.specs.declared.table.Form.the-variants.{Plain, Signed, Time, Interval, Day, Slot, Carrier}
+use Rattle.layout.specs.declared.table.Word.{Word}
+use Rattle.layout.specs.Layout.{width}
 use Rattle.words.specs.Signed.{signedAt, codeAt}
-
-abbrev pub width : Word → ℕ
-width w = w .top + 1 - w .low
 
 -- ---- one word
 -- H: "25..31 meaning -7..-1 (Table 4.10)"; any other stands for itself

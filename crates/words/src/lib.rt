@@ -1,11 +1,8 @@
-// The words of a string: one table, and the reader and the encoder of the eight kinds.
-mod kinds;
+// The words of a string: their values, the reader and the encoder of the eight kinds.
 mod reading;
-mod table;
 mod values;
 mod writing;
 
-pub use kinds::is_of_kind;
 pub use reading::Reading;
 pub use reading::immediate_words;
 pub use reading::read_words;

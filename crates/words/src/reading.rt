@@ -1,8 +1,8 @@
 // The reader.
-use crate::kinds::is_of_kind;
 use crate::values::first_bad;
 use crate::values::number_in;
 use crate::values::values_in;
+use layout::is_of_kind;
 use records::ImmediateWords;
 use records::Kind;
 use records::Record;

@@ -1,7 +1,7 @@
 // The value of a word: from its bits, to its bits, and its range.
-use crate::table::Form;
-use crate::table::Word;
-use crate::table::word_at;
+use layout::Form;
+use layout::Word;
+use layout::word_at;
 use records::Kind;
 ghost use mathlib.Core.Path.{_≡_};
 ghost use mathlib.Core.Bool.{_&&_};
@@ -11,8 +11,8 @@ ghost use lib.IntN.{pos, negℤ, natAbs};
 ghost use lib.Signed.{leZ};
 ghost use Rattle.strings.specs.Number.{numberOf, wordOf};
 ghost use Rattle.words.specs.Signed.{signedAt, codeAt};
-ghost use Rattle.words.specs.Layout.{Placed, layout};
-ghost use Rattle.words.specs.Values.{width, carrierOf, carrierCode, valueIn, codeIn, isTime, inRange, valuesOf, firstBad};
+ghost use Rattle.layout.specs.Layout.{Placed, layout, width};
+ghost use Rattle.words.specs.Values.{carrierOf, carrierCode, valueIn, codeIn, isTime, inRange, valuesOf, firstBad};
 ghost use Rattle.words.specs.Calls.{numberIn};
 
 pub fn wide(x: u8) -> u64

@@ -3,7 +3,7 @@ use mathlib.Core.Path.{ap, _∙_}
 use native.Mathlib.Omega.{arith}
 use Prim.Native.Nat.{ℕ}
 use Rattle.records.specs.declared.kinds.Kind.the-variants.{Odd}
-use Rattle.words.specs.Layout.{layout}
+use Rattle.layout.specs.Layout.{layout}
 use Rattle.words.specs.Values.{valuesOf}
 use Rattle.records.specs.Records.{oddOf}
 use Rattle.book.specs.Entry.{oddWords}

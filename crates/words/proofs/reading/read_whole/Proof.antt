@@ -8,7 +8,7 @@ use borrow.Author.Tests.{eq-eqb, ne-eqb}
 use denote.Ref.{now}
 use Rattle.strings.specs.declared.Refusal.the-variants.{Number, Place, Range}
 use Rattle.strings.specs.Number.{numberOf}
-use Rattle.words.specs.Layout.{layout, ofKind}
+use Rattle.layout.specs.Layout.{layout, ofKind}
 use Rattle.words.specs.Values.{valuesOf, firstBad}
 use Rattle.records.specs.Records.{recordOf}
 use Rattle.words.specs.Calls.{numberIn}

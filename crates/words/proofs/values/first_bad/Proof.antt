@@ -10,10 +10,11 @@ use lib.ListN.{length, getD, drop, drop-of-length-le}
 use mir.Syntax.{w32}
 use mir.Val.{SFits}
 use mir.Facts.{toZ-ofZ}
-use Rattle.words.specs.declared.table.Word.{Word}
-use Rattle.words.specs.Layout.{layout}
+use Rattle.layout.specs.declared.table.Word.{Word}
+use Rattle.layout.specs.Layout.{layout}
 use Rattle.words.specs.Values.{inRange, firstBad}
-use Rattle.words.proofs.Rows.{layout-long, bad-step, bad-found}
+use Rattle.layout.proofs.Rows.{layout-long}
+use Rattle.words.proofs.Loops.{bad-step, bad-found}
 use Rattle.words.proofs.values.first_bad.Statement.{statement}
 use Rattle.words.proofs.values.first_bad.Tie as tie
 

@@ -10,9 +10,10 @@ use mir.Val.{SFits, toZ, ofZ}
 use mir.Facts.{toZ-ofZ}
 use denote.Ref.{now}
 use Rattle.strings.specs.Number.{numberOf, wordOf}
-use Rattle.words.specs.Layout.{layout}
+use Rattle.layout.specs.Layout.{layout}
 use Rattle.words.specs.Values.{valueIn, valuesOf}
-use Rattle.words.proofs.Rows.{layout-long, values-long, values-step}
+use Rattle.layout.proofs.Rows.{layout-long}
+use Rattle.words.proofs.Loops.{values-long, values-step}
 use Rattle.words.proofs.WordBits.{word-lt}
 use Rattle.words.proofs.values.values_in.Statement.{statement}
 use Rattle.words.proofs.values.values_in.Tie as tie

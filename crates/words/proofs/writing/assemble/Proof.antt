@@ -4,7 +4,7 @@ use mathlib.Core.List.{List}
 use Prim.Native.Nat.{ℕ, _+_, _*_, _^_}
 use native.Mathlib.Omega.{arith}
 use Rattle.strings.specs.Number.{valueOf, bytesOf, stringBytes}
-use Rattle.words.specs.Layout.{layout}
+use Rattle.layout.specs.Layout.{layout}
 use Rattle.words.specs.Values.{dataOf}
 use Rattle.words.proofs.Carrying.{bytes-add}
 use borrow.Author.Needs.{needs}

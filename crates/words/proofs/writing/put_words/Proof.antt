@@ -12,10 +12,11 @@ use mir.Val.{SFits}
 use mir.Facts.{toZ-ofZ}
 use Rattle.strings.specs.Number.{valueOf, bytesOf}
 use Rattle.strings.proofs.Value.{Bytes, length-bytes, bytes-value}
-use Rattle.words.specs.declared.table.Word.{Word}
-use Rattle.words.specs.Layout.{layout}
+use Rattle.layout.specs.declared.table.Word.{Word}
+use Rattle.layout.specs.Layout.{layout}
 use Rattle.words.specs.Values.{codeIn, dataOf}
-use Rattle.words.proofs.Rows.{layout-long, data-step}
+use Rattle.layout.proofs.Rows.{layout-long}
+use Rattle.words.proofs.Loops.{data-step}
 use Rattle.words.proofs.Carrying.{bytes-are, bytes-add}
 use Rattle.words.proofs.writing.put_words.Statement.{statement}
 use Rattle.words.proofs.writing.put_words.Tie as tie

@@ -12,7 +12,7 @@ use Rattle.strings.specs.Number.{numberOf, paddingOf, stringBytes}
 use Rattle.strings.specs.Hamming.{encode}
 use Rattle.strings.proofs.Value.{string-length, string-number, string-padding, copied}
 use Rattle.records.specs.declared.kinds.Kind.{Kind}
-use Rattle.words.specs.Layout.{layout, ofKind}
+use Rattle.layout.specs.Layout.{layout, ofKind}
 use Rattle.words.specs.Values.{firstBad, dataOf}
 use Rattle.records.specs.Records.{kindOf, listOf}
 use Rattle.words.specs.Calls.{Writes, stringOf}
