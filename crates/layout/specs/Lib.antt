@@ -1,3 +1,4 @@
 pub mod Layout
 pub mod Reserved
 pub mod Widths
+pub mod Kinds

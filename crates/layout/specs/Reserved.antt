@@ -22,7 +22,7 @@ reserved Even = []
 reserved Odd = []
 reserved Fourteen = 9 to 57
 
-abbrev has : List ℕ → ℕ → Bool
+abbrev pub has : List ℕ → ℕ → Bool
 has [] i = false
 has (x ∷ xs) i = eqb x i || has xs i
 
