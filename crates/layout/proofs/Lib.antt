@@ -1,3 +1,4 @@
 pub mod EveryKind
 pub mod Rows
 pub mod KindNumbers
+pub mod ReservedBits

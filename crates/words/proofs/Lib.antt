@@ -10,3 +10,4 @@ pub mod ReadAnswers
 pub mod WriteAnswers
 pub mod RoundTrips
 pub mod Ranges
+pub mod Names

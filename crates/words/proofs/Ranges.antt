@@ -40,7 +40,7 @@ use Rattle.words.proofs.WordBits.{word-lt}
 use Rattle.layout.proofs.Rows.{layout-long}
 use Rattle.words.proofs.Fits.{and-both, is-true, sound-at, range-at, layout-laid}
 use Rattle.words.proofs.Trip.{kind-values-long}
-use Rattle.words.proofs.RecordLists.{list-long}
+use Rattle.records.proofs.RecordLists.{list-long}
 use Rattle.words.proofs.RoundTrips.{read-numbers, write-numbers}
 
 -- ---- "RANGE names the first word that fails, from the highest bit number down, by that word's top bit number"

@@ -31,7 +31,8 @@ use Rattle.layout.specs.Layout.{layout, kindNumber}
 use Rattle.words.specs.Values.{valuesOf}
 use Rattle.records.specs.Records.{kindOf, listOf, recordOf}
 use Rattle.words.specs.Calls.{numberIn, wordTests, readingWords, ReadsBy, Reads}
-use Rattle.words.proofs.RecordLists.{record-kind, record-values}
+use Rattle.records.proofs.RecordLists.{record-kind}
+use Rattle.words.proofs.RecordLists.{record-values}
 
 -- ---- an answer, test by test
 module _ {n : ℕ} {k : Kind} where

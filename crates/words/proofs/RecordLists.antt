@@ -1,65 +1,27 @@
--- Records against the lists of their values, and the string number that a kind may have.
+-- The record of a string's values, and the string number that a kind may have.
 -- Assumes nothing.
 use mathlib.Core.Path.{_≡_, refl, sym, ap, _∙_}
 use mathlib.Core.Bool.{Bool, true, _&&_}
-use mathlib.Core.List.{List}
 use Prim.Native.Nat.{ℕ, _+_, _*_, _/_, _^_, _≤_, _<_}
 use native.Mathlib.Nat.{mod-one}
 use native.Mathlib.Omega.{arith}
 use borrow.Author.Tests.{eqb-true, leb-true}
 use lib.Dec.{eqb, leb, lit≤}
-use lib.IntN.{ℤ}
-use lib.ListN.{length}
 use Rattle.strings.specs.Number.{wordOf}
 use Rattle.records.specs.declared.kinds.Kind.{Kind}
 use Rattle.records.specs.declared.kinds.Kind.the-variants.{One, Two, Three, Four, Five, Even, Odd, Fourteen}
 use Rattle.records.specs.declared.named.Record.{Record}
-use Rattle.records.specs.declared.named.Record.the-variants.{One as One′, Two as Two′, Three as Three′, Four as Four′, Five as Five′, Even as Even′, Odd as Odd′, Fourteen as Fourteen′}
 use Rattle.layout.specs.Layout.{layout, kindNumber, ofKind}
 use Rattle.words.specs.Values.{valuesOf, firstBad, dataOf}
 use Rattle.records.specs.Records.{kindOf, listOf, recordOf}
+use Rattle.records.proofs.RecordLists.{list-long}
 use Rattle.layout.proofs.EveryKind.{kindAt, kind-back}
 use Rattle.words.proofs.Fits.{and-both, kind-data-lt}
-
--- ---- a record is its kind and the list of its values
-pub list-long : (r : Record) → length (listOf r) ≡ 8
-unfolding listOf
-list-long (One′ r) = refl
-list-long (Two′ r) = refl
-list-long (Three′ r) = refl
-list-long (Four′ r) = refl
-list-long (Five′ r) = refl
-list-long (Even′ r) = refl
-list-long (Odd′ r) = refl
-list-long (Fourteen′ r) = refl
-
-pub record-list : (r : Record) → recordOf (kindOf r) (listOf r) ≡ r
-unfolding listOf recordOf
-record-list (One′ r) = refl
-record-list (Two′ r) = refl
-record-list (Three′ r) = refl
-record-list (Four′ r) = refl
-record-list (Five′ r) = refl
-record-list (Even′ r) = refl
-record-list (Odd′ r) = refl
-record-list (Fourteen′ r) = refl
 
 pub kind-same : (k l : Kind) → kindNumber k ≡ kindNumber l → k ≡ l
 kind-same k l e = sym (kind-back k) ∙ ap kindAt e ∙ kind-back l
 
--- ---- the record of a string's values
-pub record-kind : (k : Kind) (v : List ℤ) → kindOf (recordOf k v) ≡ k
-unfolding recordOf
-record-kind One v = refl
-record-kind Two v = refl
-record-kind Three v = refl
-record-kind Four v = refl
-record-kind Five v = refl
-record-kind Even v = refl
-record-kind Odd v = refl
-record-kind Fourteen v = refl
-
--- it holds all of them: where it has no word, the filler has no bit
+-- ---- the record of a string's values holds all of them: where it has no word, the filler has no bit
 pub record-values : (k : Kind) (n : ℕ) → listOf (recordOf k (valuesOf n (layout k))) ≡ valuesOf n (layout k)
 unfolding listOf recordOf valuesOf layout wordOf
 record-values One n = rw (mod-one (n / 2 ^ 8))

@@ -1,6 +1,7 @@
 -- The reader and the encoder, over their public relations Reads and Writes. No second answer fits: read-once, write-once. Each number exactly where
 -- it belongs: read-numbers, write-numbers. What was written is read: written-then-read. What was read is written again: read-then-written, with
--- tidied-is and tidied-only to say which string that is, and comes-back, where it is the same.
+-- tidied-is and tidied-only to say which string that is, and comes-back, where it is the same. What is written has no minus zero and no reserved bit
+-- at 1: written-tidy.
 -- Assumes nothing.
 use mathlib.Core.Path.{_≡_, refl, sym, ap, ap₂, _∙_, subst}
 use mathlib.Core.Bool.{Bool, true, false, not, _&&_, _||_, true≢false}
@@ -10,8 +11,8 @@ use Prim.Native.Nat.{ℕ, suc, _+_, _-_, _*_, _/_, _%_, _^_, _≤_, _<_, suc-le-
 use native.Mathlib.Nat.{mod-lt, zero-lt-suc}
 use native.Mathlib.Omega.{arith}
 use borrow.Author.Tests.{eq-eqb, ne-eqb, eqb-true, leb-true, not-false}
-use lib.Dec.{eqb, leb, lit<, lit≤}
-use lib.IntN.{ℤ}
+use lib.Dec.{T, eqb, leb, lit<, lit≤}
+use lib.IntN.{ℤ, pos}
 use lib.ListN.{length, getD}
 use lib.Pow.{shr-shr}
 use Rattle.strings.specs.declared.Verdict.the-variants.{Clean}
@@ -33,6 +34,8 @@ use Rattle.strings.proofs.Encode.{encode-encoded, encode-stays, encode-lt, enco
 use Rattle.strings.proofs.CheckRule.{Whole, encoded-clean}
 use Rattle.strings.proofs.Flips.{encoded-ruling}
 use Rattle.strings.proofs.Judge.{mended-by}
+use Rattle.layout.specs.declared.table.Form.{Form}
+use Rattle.layout.specs.declared.table.Form.the-variants.{Signed}
 use Rattle.layout.specs.declared.table.Word.{Word}
 use Rattle.records.specs.declared.kinds.Kind.{Kind}
 use Rattle.records.specs.declared.named.Record.{Record}
@@ -40,14 +43,18 @@ use Rattle.words.specs.declared.reading.Reading.{Reading}
 use Rattle.words.specs.declared.reading.Reading.the-variants.{Read, Refused}
 use Rattle.layout.specs.Layout.{layout, none, kindNumber, ofKind}
 use Rattle.layout.specs.Reserved.{inWords}
-use Rattle.words.specs.Values.{valuesOf, firstBad, dataOf}
+use Rattle.words.specs.Values.{codeAs, codeIn, valuesOf, firstBad, dataOf}
 use Rattle.records.specs.Records.{kindOf, listOf, recordOf}
 use Rattle.words.specs.Calls.{numberIn, readTests, readingPaper, readingWords, Reads, writeTests, stringOf, Writes}
-use Rattle.words.specs.Tidied.{wordAt, tidyWords, tidied, Tidy}
-use Rattle.words.proofs.RecordLists.{list-long, record-list, kind-same, of-kind}
-use Rattle.layout.proofs.Rows.{layout-long}
+use Rattle.words.specs.Tidied.{wordAt, bitsIn, tidyWords, tidied, Tidy, NoStray}
+use Rattle.records.proofs.RecordLists.{list-long, record-list}
+use Rattle.words.proofs.RecordLists.{kind-same, of-kind}
+use Rattle.layout.proofs.Rows.{layout-long, placed-at}
+use Rattle.layout.proofs.ReservedBits.{reserved-free}
 use Rattle.words.proofs.Loops.{values-long}
-use Rattle.words.proofs.Fits.{and-both, data-lt, sound-at, layout-laid, kind-data-lt}
+use Rattle.words.proofs.Sign.{never-minus-zero}
+use Rattle.words.proofs.WordBits.{word-split}
+use Rattle.words.proofs.Fits.{and-both, halfOf, formTest, form-test, test-at, signed-near, range-at, data-lt, sound-at, layout-laid, kind-fit, kind-data-lt}
 use Rattle.words.proofs.Trip.{kind-values, kind-values-same, data-values, read-fit, bit-same, word-same, word-data, code-read, gap-data}
 
 -- ---- a reading is known by its numbers and its words
@@ -201,6 +208,20 @@ module _ (m : ℕ) (r : Record) (out out′ : List ℕ) (a : Writes m r out Done
         idle = made-idle m words-of m-lt words-lt;
       }
 
+  written-number : numberOf out′ ≡ made m words-of m-lt words-lt
+  unfolding stringOf
+  written-number = ap numberOf (facts .output) ∙ string-number (made m words-of m-lt words-lt) (made-lt m words-of m-lt words-lt)
+
+  -- which has m and the values of the record
+  pub written-values : (numberIn (numberOf out′) ≡ m) × (valuesOf (numberOf out′) (layout (kindOf r)) ≡ listOf r)
+  written-values =
+      let k = kindOf r in
+      let x = m * 2 ^ 80 + words-of in (
+        ap numberIn written-number ∙ made-number m words-of m-lt words-lt,
+        ap (λ (n : ℕ). valuesOf n (layout k)) written-number
+            ∙ kind-values-same k (encode x) x (encode-stays x) ∙ kind-values k (listOf r) (list-long r) (facts .range) m,
+      )
+
   -- which the public check takes as clean
   pub written-clean : (room left : List ℕ) (c : Checked) → length room ≡ 11 → Checks out′ room c left → (c ≡ Taken Clean) × (left ≡ out′)
   written-clean room left c n b =
@@ -233,6 +254,45 @@ module _ (m : ℕ) (r : Record) (out out′ : List ℕ) (a : Writes m r out Done
   pub written-then-read : (q : Reading) → Reads out′ (kindOf r) q → q ≡ Read m r
   unfolding stringOf
   written-then-read q b = read-once out′ (kindOf r) q (Read m r) b (subst (λ (s : List ℕ). Reads s (kindOf r) (Read m r)) (sym (facts .output)) written-read)
+
+  -- ---- WHAT IS WRITTEN IS TIDY, of every record: no minus zero, no reserved bit at 1
+  word-written : (j : ℕ) → j < 8 → bitsIn (numberOf out′) (wordAt (kindOf r) j) ≡ codeIn (wordAt (kindOf r) j) (getD (listOf r) j (pos 0))
+  word-written j l =
+      let ws = layout (kindOf r) in
+      let w = wordAt (kindOf r) j in
+      let x = m * 2 ^ 80 + words-of in
+      ap (λ (n : ℕ). bitsIn n w) written-number
+      ∙ word-same (encode x) x (w .top) (w .low) (encode-stays x) (sound-at 80 ws (layout-laid (kindOf r)) j .above)
+      ∙ word-data ws (listOf r) m 80 (layout-laid (kindOf r)) (list-long r ∙ sym (layout-long (kindOf r))) (kind-fit (kindOf r) (listOf r) (list-long r) (facts .range)) j (omega (arith, layout-long (kindOf r)))
+
+  sign-written : (j : ℕ) → j < 8 → wordAt (kindOf r) j .form ≡ Signed → bitsIn (numberOf out′) (wordAt (kindOf r) j) ≡ 2 ^ (wordAt (kindOf r) j .top - wordAt (kindOf r) j .low) → ⊥
+  sign-written j l f e =
+      let ws = layout (kindOf r) in
+      let w = wordAt (kindOf r) j in
+      let z = getD (listOf r) j (pos 0) in
+      let t = subst (λ (g : Form). T (formTest g w)) f (form-test w (test-at 80 ws (layout-laid (kindOf r)) j)) in
+      let i = range-at ws (listOf r) 80 (layout-laid (kindOf r)) (list-long r ∙ sym (layout-long (kindOf r))) (facts .range) j (omega (arith, layout-long (kindOf r))) in
+      never-minus-zero (halfOf w) z (signed-near w t z i)
+      (ap (λ (g : Form). codeAs g (halfOf w) z) (sym f) ∙ sym (word-written j l) ∙ e)
+
+  gap-written : (i : ℕ) → 9 ≤ i → i ≤ 80 → inWords (layout (kindOf r)) i ≡ false → bitOf (numberOf out′) i ≡ 0
+  gap-written i l u g =
+      let x = m * 2 ^ 80 + words-of in
+      ap (λ (n : ℕ). bitOf n i) written-number ∙ bit-same (encode x) x i (encode-stays x) l
+      ∙ gap-data (layout (kindOf r)) (listOf r) m 80 (layout-laid (kindOf r)) (kind-fit (kindOf r) (listOf r) (list-long r) (facts .range)) i (omega arith) u g
+
+  pub written-tidy : NoStray (kindOf r) (numberOf out′)
+  written-tidy =
+      record {
+        no-minus-zero = λ j l f s z. let w = wordAt (kindOf r) j in
+            let p = placed-at (kindOf r) j l in
+            let n = numberOf out′ in
+            let e : wordOf n (w .top) (w .low) ≡ 1 * 2 ^ (w .top - w .low) + 0 =
+            word-split n (w .top) (w .low) (p .first) (p .sign f) ∙ ap₂ (λ (a b : ℕ). a * 2 ^ (w .top - w .low) + b) s z in
+            sign-written j l f (e ∙ omega arith);
+        unused = gap-written;
+        printed = λ i t. let p = reserved-free (kindOf r) i t in gap-written i (p .0 .0) (p .0 .1) (p .1);
+      }
 
 -- ---- READ, THEN WRITTEN: the string as the check leaves it, "but that reserved bits and minus zeros become plain zeros and the check bits
 -- follow" (Tidied.antt; what `tidied` is, bit for bit, is `tidied-is` below)
@@ -290,7 +350,7 @@ tidied-is k n =
     })
 
 -- ---- and nothing else is: what `Tidy` says leaves no bit open
-bit-in-word : (n i top low : ℕ) → 1 ≤ low → low ≤ i → i ≤ top → bitOf n i ≡ wordOf n top low / 2 ^ (i - low) % 2
+pub bit-in-word : (n i top low : ℕ) → 1 ≤ low → low ≤ i → i ≤ top → bitOf n i ≡ wordOf n top low / 2 ^ (i - low) % 2
 unfolding wordOf
 bit-in-word n i top low h l u =
     let x = n / 2 ^ (low - 1) in

@@ -5,7 +5,7 @@ use Prim.Native.Nat.{ℕ, _+_, _-_, _*_, _^_, _≤_, _<_}
 use mathlib.Core.Bool.{Bool, true, false, _&&_}
 use mathlib.Core.List.{List, [], _∷_}
 use mathlib.Core.Path.{_≡_}
-use lib.Dec.{eqb}
+use lib.Dec.{T, eqb}
 use lib.ListN.{getD}
 use Rattle.strings.specs.Pick.{pick}
 use Rattle.strings.specs.Number.{wordOf, bitOf}
@@ -15,7 +15,7 @@ use Rattle.layout.specs.declared.table.Form.the-variants.{Plain, Signed, Time, 
 use Rattle.layout.specs.declared.table.Word.{Word}
 use Rattle.records.specs.declared.kinds.Kind.{Kind}
 use Rattle.layout.specs.Layout.{layout, none}
-use Rattle.layout.specs.Reserved.{inWords}
+use Rattle.layout.specs.Reserved.{reserved, has, inWords}
 use Rattle.words.specs.Calls.{numberIn}
 
 -- the j-th word of a kind
@@ -62,3 +62,12 @@ pub record Tidy (k : Kind) (n t : ℕ) : Type 0 where
   pub words : (j : ℕ) → j < 8 → bitsIn t (wordAt k j) ≡ tidyWord (wordAt k j) (bitsIn n (wordAt k j))
   -- and a bit 9..80 in no word is 0
   pub reserved : (i : ℕ) → 9 ≤ i → i ≤ 80 → inWords (layout k) i ≡ false → bitOf t i ≡ 0
+
+-- and what the encoder writes of any record: no minus zero, and no reserved bit at 1
+pub record NoStray (k : Kind) (n : ℕ) : Type 0 where
+  -- no signed word has its sign at 1 and every bit below it at 0
+  pub no-minus-zero : (j : ℕ) → j < 8 → wordAt k j .form ≡ Signed → bitOf n (wordAt k j .top) ≡ 1 → wordOf n (wordAt k j .top - 1) (wordAt k j .low) ≡ 0 → ⊥
+  -- a bit 9..80 in no word is 0
+  pub unused : (i : ℕ) → 9 ≤ i → i ≤ 80 → inWords (layout k) i ≡ false → bitOf n i ≡ 0
+  -- and so is each bit that Table 4.12 prints
+  pub printed : (i : ℕ) → T (has (reserved k) i) → bitOf n i ≡ 0
