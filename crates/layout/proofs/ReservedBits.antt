@@ -6,10 +6,11 @@ use mathlib.Core.List.{List, [], _∷_}
 use Prim.Native.Nat.{ℕ, _≤_}
 use borrow.Author.Tests.{eqb-true}
 use lib.Dec.{T, eqb, leb, leb→le}
+use Rattle.strings.specs.Table413.{has}
 use Rattle.strings.proofs.Below.{and-left, and-right}
 use Rattle.records.specs.declared.kinds.Kind.{Kind}
 use Rattle.layout.specs.Layout.{layout}
-use Rattle.layout.specs.Reserved.{reserved, has, inWords}
+use Rattle.layout.specs.Reserved.{reserved, inWords}
 use Rattle.layout.proofs.EveryKind.{kinds, every, every-kind}
 
 abbrev freeTest : Kind → ℕ → Bool

@@ -5,11 +5,10 @@ use Prim.Native.Nat.{ℕ}
 use mathlib.Core.Bool.{Bool, true, _&&_, Bool·beq}
 use mathlib.Core.List.{List, [], _∷_}
 use lib.Dec.{T}
-use Rattle.strings.specs.Table413.{_to_}
+use Rattle.strings.specs.Table413.{_to_, has}
 use Rattle.records.specs.declared.kinds.Kind.{Kind}
 use Rattle.records.specs.declared.kinds.Kind.the-variants.{One, Two, Three, Four, Five, Even, Odd, Fourteen}
 use Rattle.layout.specs.Layout.{ofKind}
-use Rattle.layout.specs.Reserved.{has}
 
 -- "string 1", .., "string 5", "even 6..14", "odd 7..15", "frame 5, string 14"
 abbrev pub numbers : Kind → List ℕ

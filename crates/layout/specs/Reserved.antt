@@ -4,8 +4,8 @@
 use Prim.Native.Nat.{ℕ}
 use mathlib.Core.Bool.{Bool, true, false, not, _&&_, _||_, Bool·beq}
 use mathlib.Core.List.{List, [], _∷_, _++_}
-use lib.Dec.{T, eqb, leb}
-use Rattle.strings.specs.Table413.{_to_}
+use lib.Dec.{T, leb}
+use Rattle.strings.specs.Table413.{_to_, has}
 use Rattle.layout.specs.declared.table.Word.{Word}
 use Rattle.records.specs.declared.kinds.Kind.{Kind}
 use Rattle.records.specs.declared.kinds.Kind.the-variants.{One, Two, Three, Four, Five, Even, Odd, Fourteen}
@@ -21,10 +21,6 @@ reserved Five = 37 to 37
 reserved Even = []
 reserved Odd = []
 reserved Fourteen = 9 to 57
-
-abbrev pub has : List ℕ → ℕ → Bool
-has [] i = false
-has (x ∷ xs) i = eqb x i || has xs i
 
 -- bit i lies in one of the words
 abbrev pub inWords : List Word → ℕ → Bool

@@ -1,3 +1,4 @@
 pub mod Relative
 pub mod Calls
+pub mod Orders
 pub mod Known

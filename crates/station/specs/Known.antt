@@ -16,11 +16,10 @@ use Rattle.strings.specs.Numbers.{firstOf, answerOf}
 use Rattle.strings.specs.Known.{A, zeros, a, known as strings-known}
 use Rattle.relative.specs.Known.{B, inverseB, known as relative-known}
 use Rattle.records.specs.declared.kinds.Kind.{Kind}
-use Rattle.layout.specs.declared.table.Form.the-variants.{Carrier}
-use Rattle.layout.specs.Layout.{word}
+use Rattle.records.specs.declared.kinds.Kind.the-variants.{One, Odd}
 use Rattle.words.specs.Calls.{readTests}
 use Rattle.words.specs.Values.{valueIn, inRange}
-use Rattle.words.specs.Signed.{signedAt}
+use Rattle.words.specs.Tidied.{wordAt}
 use Rattle.words.specs.Known.{known as words-known}
 use Rattle.book.specs.Shows.{dayOf}
 use Rattle.book.specs.Known.{known as days-known}
@@ -55,16 +54,16 @@ pub record KnownStrings : Type 0 where
   pub zeros-clean : ruling (numberOf zeros) ≡ Sound Clean
   pub zeros-number : (k : Kind) → firstOf (readTests zeros k) ≡ 5
   pub zeros-offered : (c epoch : ℕ) → isNoChannel c ≡ false → answerOf (stationTests freshStation c epoch zeros) (toldIn freshStation c epoch zeros) ≡ 5 ∷ []
-  -- "Five signed bits 10000, 10001, 11111, 01111: 0, -1, -15, 15."
-  pub minus-zero : signedAt 16 0b10000 ≡ pos 0
-  pub minus-one : signedAt 16 0b10001 ≡ negsuc 0
-  pub least : signedAt 16 0b11111 ≡ negsuc 14
-  pub greatest : signedAt 16 0b01111 ≡ pos 15
-  -- "H 31, 25: -1, -7; 14 and 24: RANGE."
-  pub H-31 : valueIn (word Carrier 14 10) 31 ≡ negsuc 0
-  pub H-25 : valueIn (word Carrier 14 10) 25 ≡ negsuc 6
-  pub H-14 : inRange (word Carrier 14 10) (valueIn (word Carrier 14 10) 14) ≡ false
-  pub H-24 : inRange (word Carrier 14 10) (valueIn (word Carrier 14 10) 24) ≡ false
+  -- "Five signed bits 10000, 10001, 11111, 01111: 0, -1, -15, 15.": in the x acceleration, the fourth word of string 1
+  pub minus-zero : valueIn (wordAt One 3) 0b10000 ≡ pos 0
+  pub minus-one : valueIn (wordAt One 3) 0b10001 ≡ negsuc 0
+  pub least : valueIn (wordAt One 3) 0b11111 ≡ negsuc 14
+  pub greatest : valueIn (wordAt One 3) 0b01111 ≡ pos 15
+  -- "H 31, 25: -1, -7; 14 and 24: RANGE.": in the fifth word of an odd string
+  pub H-31 : valueIn (wordAt Odd 4) 31 ≡ negsuc 0
+  pub H-25 : valueIn (wordAt Odd 4) 25 ≡ negsuc 6
+  pub H-14 : inRange (wordAt Odd 4) (valueIn (wordAt Odd 4) 14) ≡ false
+  pub H-24 : inRange (wordAt Odd 4) (valueIn (wordAt Odd 4) 24) ≡ false
   -- "N4 6, NA 1461 is day 8766; N4 7, NA 1 is 8767."
   pub last-day : dayOf 6 1461 ≡ 8766
   pub next-day : dayOf 7 1 ≡ 8767

@@ -15,13 +15,13 @@ use Rattle.strings.specs.declared.Verdict.the-variants.{Clean, Repaired}
 use Rattle.strings.specs.declared.Checked.{Checked}
 use Rattle.strings.specs.declared.Checked.the-variants.{Taken, Refused}
 use Rattle.strings.specs.declared.hamming.Ruling.the-variants.{Sound}
-use Rattle.strings.specs.Number.{numberOf, misshapen, bitOf, flip, stringBytes}
-use Rattle.strings.specs.Hamming.{ruling, isDamaged, mended, mendedBy, Encoded}
+use Rattle.strings.specs.Number.{Bytes, numberOf, misshapen, bitOf, flip, stringBytes}
+use Rattle.strings.specs.Hamming.{ruling, isDamaged, mended, mendedBy, Encoded, Whole}
 use Rattle.strings.specs.Numbers.{verdictPaper, Exactly, FitsAt}
 use Rattle.strings.specs.Calls.{Checks, checkTests, checkedPaper, isIdle}
 use Rattle.strings.proofs.Below.{unfit}
 use Rattle.strings.proofs.Digits.{bit-lt, flip-lt, flip-undo}
-use Rattle.strings.proofs.Value.{Bytes, number-lt, string-number}
+use Rattle.strings.proofs.Value.{number-lt, string-number}
 use Rattle.strings.proofs.Shape.{shaped, string-shaped}
 use Rattle.strings.proofs.Answer.{same-answer, checked-same, exactly, taken-made}
 use Rattle.strings.proofs.CheckAnswers.{check-damaged, check-idle, check-taken}
@@ -99,14 +99,6 @@ module _ (n : ℕ) (h : n < 2 ^ 85) (v : Encoded n) (out : List ℕ) (room : len
         check-once _ out r _ out′ _ a (says-damaged m (flip-lt 85 (flip n i) j (flip-lt 85 n i h l u) l′ u′) out room (two-flips-ruling n i j v l u l′ u′ ne))
 
 -- ---- whatever the check writes is encoded and has its idle bit at 0; and checking it again is clean
--- the bytes of an encoded string whose idle bit is 0
-pub record Whole (s : List ℕ) : Type 0 where
-  pub number : ℕ
-  pub small : number < 2 ^ 85
-  pub bytes : s ≡ stringBytes number
-  pub encoded : Encoded number
-  pub idle : bitOf number 85 ≡ 0
-
 module _ (s : List ℕ) (b : Bytes s) (out : List ℕ) (v : Verdict) (out′ : List ℕ) (a : Checks s out (Taken v) out′) where
   clear : (j : ℕ) → j < 4 → FitsAt (checkTests s out) j → ⊥
   clear = check-numbers s out (Taken v) out′ a .taken .0 refl

@@ -1,10 +1,11 @@
 -- What the tests of the ruling say of S, at each of its 128 values: computed once.
 -- Assumes nothing.
 use mathlib.Core.Path.{_≡_, refl, _∙_, subst, ap}
-use mathlib.Core.Bool.{Bool, true, false, not, _&&_, Bool·beq}
+use mathlib.Core.Bool.{Bool, true, false, not, _&&_, _||_, Bool·beq}
 use Prim.Native.Nat.{ℕ, _-_, _*_, _%_, _^_, _≤_, _<_}
 use native.Mathlib.Nat.{one-mul}
 use native.Mathlib.Omega.{arith}
+use borrow.Author.Tests.{ne-eqb}
 use lib.Dec.{T, eqb, leb, leb→le, lit<}
 use lib.Pow.{shl-exact}
 use Rattle.strings.specs.declared.Verdict.{Verdict}
@@ -22,7 +23,7 @@ beq→eq true false t = absurd t
 beq→eq false true t = absurd t
 beq→eq false false t = refl
 
--- exactly one sum is set where S is the weight of the highest; more, where S is neither that nor 0
+-- of an S that is not 0: exactly one sum is set where S is the weight of the highest, and more where it is not
 pub record Weighed (s : ℕ) : Type 0 where
   pub one : eqb (sumsSet s) 1 ≡ eqb s (2 ^ (highest s - 1))
   pub more : leb 2 (sumsSet s) ≡ (not (eqb s 0) && not (eqb s (2 ^ (highest s - 1))))
@@ -32,18 +33,18 @@ pub record Weighed (s : ℕ) : Type 0 where
 abbrev weightTest : ℕ → Bool
 weightTest s =
     let w = eqb s (2 ^ (highest s - 1)) in
-    Bool·beq (eqb (sumsSet s) 1) w && (Bool·beq (leb 2 (sumsSet s)) (not (eqb s 0) && not w) && (leb 1 (highest s) && leb (highest s) 7))
+    Bool·beq (eqb (sumsSet s) 1) w && (Bool·beq (leb 2 (sumsSet s)) (not (eqb s 0) && not w) && ((eqb s 0 || leb 1 (highest s)) && leb (highest s) 7))
 
 weights : T (below 128 weightTest)
 unfolding highest sumsSet
 weights = tt
 
-pub weighed : (s : ℕ) → s < 128 → Weighed s
-weighed s h =
+pub weighed : (s : ℕ) → (s ≡ 0 → ⊥) → s < 128 → Weighed s
+weighed s n h =
     let w = eqb s (2 ^ (highest s - 1)) in
     let a = Bool·beq (eqb (sumsSet s) 1) w in
     let b = Bool·beq (leb 2 (sumsSet s)) (not (eqb s 0) && not w) in
-    let c = leb 1 (highest s) in
+    let c = eqb s 0 || leb 1 (highest s) in
     let d = leb (highest s) 7 in
     let t = below-at 128 weightTest weights s h in
     let u = and-right a (b && (c && d)) t in
@@ -51,7 +52,7 @@ weighed s h =
     record {
       one = beq→eq _ _ (and-left a (b && (c && d)) t);
       more = beq→eq _ _ (and-left b (c && d) u);
-      least = leb→le _ _ (and-left c d v);
+      least = leb→le _ _ (subst (λ (x : Bool). T (x || leb 1 (highest s))) (ne-eqb s 0 n) (and-left c d v));
       most = leb→le _ _ (and-right c d v);
     }
 

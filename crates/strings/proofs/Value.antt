@@ -12,11 +12,8 @@ use lib.ListN.{length, getD, set, take, drop, length-set, drop-of-length-le}
 use lib.Pow.{pow-pos, pow-lt, pow-mono, pow-add, shl-lt, shl-shr, shl-exact, shr-shr, high, mod-pow-add}
 use lib.Seq.{ext-getD, take-length}
 use Rattle.strings.specs.Number.{valueOf, bytesOf, bitOf, numberOf, paddingOf, flip, stringBytes}
+pub use Rattle.strings.specs.Number.{Bytes}
 use Rattle.strings.proofs.Digits.{low-digit}
-
--- every element is a byte
-abbrev pub Bytes : List ℕ → Type 0
-Bytes s = (k : ℕ) → getD s k 0 < 256
 
 -- ---- the number of a list
 one-more : (n : ℕ) → 2 ^ (8 * suc n) ≡ 256 * 2 ^ (8 * n)

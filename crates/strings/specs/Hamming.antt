@@ -1,7 +1,8 @@
 -- The check of a string: positions, sums, ruling and check bits (the paper, "Check positions"; ICD 4.7, Table 4.13).
 -- Assumes nothing.
-use Prim.Native.Nat.{ℕ, zero, suc, _+_, _-_, _*_, _%_, _^_, _≤_}
+use Prim.Native.Nat.{ℕ, zero, suc, _+_, _-_, _*_, _%_, _^_, _≤_, _<_}
 use mathlib.Core.Bool.{Bool, true, false, _&&_}
+use mathlib.Core.List.{List}
 use mathlib.Core.Path.{_≡_}
 use lib.Bits.{bitXor}
 use lib.Dec.{leb, eqb}
@@ -11,7 +12,7 @@ use Rattle.strings.specs.declared.hamming.Damage.the-variants.{Unplaced,
 use Rattle.strings.specs.declared.hamming.Ruling.{Ruling}
 use Rattle.strings.specs.declared.hamming.Ruling.the-variants.{Sound, Damaged}
 use Rattle.strings.specs.Pick.{pick}
-use Rattle.strings.specs.Number.{bitOf, fromBits, flip}
+use Rattle.strings.specs.Number.{bitOf, fromBits, flip, stringBytes}
 
 -- "Bit i has a position: 9 has 3; 10..12 have i-5; 13..19 i-4; 20..34 i-3; 35..65 i-2; 66..85 i-1. Check bit k, 1..7, has 2^(k-1); bit 8 has 0"
 unfoldable pub position : ℕ → ℕ
@@ -46,16 +47,14 @@ syndrome n = fromBits (λ k. sumC k n) 7
 unfoldable pub sumsSet : ℕ → ℕ
 sumsSet s = addUp (λ k. 1) s 7
 
--- "K being the highest set sum", of an S that is not 0
+-- the highest of the sums k..1 that is set; 0 where none is
+abbrev pub highestOf : ℕ → ℕ → ℕ
+highestOf zero s = 0
+highestOf (suc k) s = pick (eqb (bitOf s (suc k)) 1) (suc k) (highestOf k s)
+
+-- "K being the highest set sum"
 unfoldable pub highest : ℕ → ℕ
-highest s =
-    pick (leb 64 s) 7
-    (pick (leb 32 s) 6
-    (pick (leb 16 s) 5
-    (pick (leb 8 s) 4
-    (pick (leb 4 s) 3
-    (pick (leb 2 s) 2
-    1)))))
+highest s = highestOf 7 s
 
 -- "C = 1, two or more set: bit S+8-K is inverted .. if S+8-K is at most 85"
 unfoldable pub placed : ℕ → Ruling
@@ -98,6 +97,14 @@ mended n = mendedBy (ruling n) n
 pub record Encoded (n : ℕ) : Type 0 where
   pub sums : syndrome n ≡ 0
   pub all : sumAll n ≡ 0
+
+-- the bytes of an encoded string whose idle bit is 0
+pub record Whole (s : List ℕ) : Type 0 where
+  pub number : ℕ
+  pub small : number < 2 ^ 85
+  pub bytes : s ≡ stringBytes number
+  pub encoded : Encoded number
+  pub idle : bitOf number 85 ≡ 0
 
 -- the string with check bit k turned where C_k is 1, 1..7: check bit k and C_k have one weight
 unfoldable pub sumsMade : ℕ → ℕ

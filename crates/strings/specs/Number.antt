@@ -1,12 +1,16 @@
 -- The string (the paper, "The string"; ICD 4.3.3). Its eleven bytes, the first the highest, are a number of 88 bits: the three lowest are
 -- padding, the other 85 are the string N below 2 ^ 85. Bits are numbered 85 down to 1, the highest number at the highest weight.
 -- Assumes nothing.
-use Prim.Native.Nat.{ℕ, zero, suc, _+_, _-_, _*_, _/_, _%_, _^_}
+use Prim.Native.Nat.{ℕ, zero, suc, _+_, _-_, _*_, _/_, _%_, _^_, _<_}
 use mathlib.Core.Bool.{Bool, not, _||_}
 use mathlib.Core.List.{List, [], _∷_}
 use lib.Bits.{bitXor}
 use lib.Dec.{eqb}
-use lib.ListN.{length}
+use lib.ListN.{length, getD}
+
+-- every element is a byte
+abbrev pub Bytes : List ℕ → Type 0
+Bytes s = (k : ℕ) → getD s k 0 < 256
 
 -- bytes as one number, the first byte highest
 abbrev pub valueOf : List ℕ → ℕ

@@ -76,6 +76,11 @@ pub record Answers (tests : List Test) (told made out said out′ : List ℕ) : 
   pub answer : said ≡ answerOf tests told
   pub output : out′ ≡ leftBy (firstOf tests) made out
 
+-- the numbers of the tests, in their order
+abbrev pub numbersOf : List Test → List ℕ
+numbersOf [] = []
+numbersOf (t ∷ ts) = t .number ∷ numbersOf ts
+
 -- the j-th test's number, and that it fits
 abbrev pub numberAt : List Test → ℕ → ℕ
 numberAt ts j = getD ts j (test 0 false) .number

@@ -43,7 +43,8 @@ C6 = 35 to 65
 abbrev pub C7 : List ℕ
 C7 = 66 to 85
 
-abbrev has : List ℕ → ℕ → Bool
+-- the list has the number
+abbrev pub has : List ℕ → ℕ → Bool
 has [] i = false
 has (x ∷ xs) i = eqb x i || has xs i
 

@@ -71,6 +71,7 @@ fn add_up(s: &[u8]) -> Sums
 
 // K: the highest set sum, of an S that is not 0.
 fn highest_of(s: u8) -> u8
+    requires { ⌜ (1 ≤ s) × (s < 128) ⌝ }
     ensures { λ r. ⌜ r ≡ highest s ⌝ }
 {
     if 64 <= s {

@@ -21,17 +21,17 @@ use Rattle.strings.specs.declared.Checked.the-variants.{Taken}
 use Rattle.strings.specs.declared.Written.{Written}
 use Rattle.strings.specs.declared.Written.the-variants.{Done}
 use Rattle.strings.specs.Pick.{pick}
-use Rattle.strings.specs.Number.{numberOf, misshapen, bitOf, wordOf, stringBytes}
-use Rattle.strings.specs.Hamming.{ruling, isDamaged, mended, encode}
+use Rattle.strings.specs.Number.{Bytes, numberOf, misshapen, bitOf, wordOf, stringBytes}
+use Rattle.strings.specs.Hamming.{ruling, isDamaged, mended, Whole, encode}
 use Rattle.strings.specs.Numbers.{firstOf, placeOf, saidBy, Exactly}
 use Rattle.strings.specs.Calls.{writtenPaper, noRoom, isIdle, Checks}
 use Rattle.strings.proofs.Digits.{low-digit, bits-same, three}
-use Rattle.strings.proofs.Value.{Bytes, string-number, string-bytes}
+use Rattle.strings.proofs.Value.{string-number, string-bytes}
 use Rattle.strings.proofs.Shape.{string-shaped, has-room, shaped}
 use Rattle.strings.proofs.Below.{unfit}
 use Rattle.strings.proofs.Answer.{goes-on, takes, same-answer, refusal-same, written-same, exactly, taken-made}
 use Rattle.strings.proofs.Encode.{encode-encoded, encode-stays, encode-lt, encoded-once}
-use Rattle.strings.proofs.CheckRule.{Whole, encoded-clean}
+use Rattle.strings.proofs.CheckRule.{encoded-clean}
 use Rattle.strings.proofs.Flips.{encoded-ruling}
 use Rattle.strings.proofs.Judge.{mended-by}
 use Rattle.layout.specs.declared.table.Form.{Form}
@@ -46,6 +46,7 @@ use Rattle.layout.specs.Reserved.{inWords}
 use Rattle.words.specs.Values.{codeAs, codeIn, valuesOf, firstBad, dataOf}
 use Rattle.records.specs.Records.{kindOf, listOf, recordOf}
 use Rattle.words.specs.Calls.{numberIn, readTests, readingPaper, readingWords, Reads, writeTests, stringOf, Writes}
+use Rattle.words.specs.Taken.{IsRead, IsWritten}
 use Rattle.words.specs.Tidied.{wordAt, bitsIn, tidyWords, tidied, Tidy, NoStray}
 use Rattle.records.proofs.RecordLists.{list-long, record-list}
 use Rattle.words.proofs.RecordLists.{kind-same, of-kind}
@@ -87,18 +88,7 @@ module _ (m : ℕ) (r : Record) (out : List ℕ) where
   unfolding Writes
   write-numbers w out′ a = exactly tt a
 
--- ---- what it takes to be read, test by test, and what is told then
-pub record IsRead (s : List ℕ) (k : Kind) (m : ℕ) (r : Record) : Type 0 where
-  pub shape : misshapen s ≡ false
-  pub sound : isDamaged (ruling (numberOf s)) ≡ false
-  pub idle : isIdle (mended (numberOf s)) ≡ false
-  pub numbered : eqb (numberIn (mended (numberOf s))) 0 ≡ false
-  pub place : ofKind k (numberIn (mended (numberOf s))) ≡ true
-  pub range : firstBad (layout k) (valuesOf (mended (numberOf s)) (layout k)) ≡ 0
-  pub number : m ≡ numberIn (mended (numberOf s))
-  pub kind : kindOf r ≡ k
-  pub words : listOf r ≡ valuesOf (mended (numberOf s)) (layout k)
-
+-- ---- what it takes to be read
 module _ (s : List ℕ) (k : Kind) (m : ℕ) (r : Record) where
   none-fits : misshapen s ≡ false → isDamaged (ruling (numberOf s)) ≡ false → isIdle (mended (numberOf s)) ≡ false
       → eqb (numberIn (mended (numberOf s))) 0 ≡ false → ofKind k (numberIn (mended (numberOf s))) ≡ true
@@ -143,12 +133,6 @@ module _ (s : List ℕ) (k : Kind) (m : ℕ) (r : Record) where
       }
 
 -- ---- and to be written
-pub record IsWritten (m : ℕ) (r : Record) (out out′ : List ℕ) : Type 0 where
-  pub room : length out ≡ 11
-  pub place : ofKind (kindOf r) m ≡ true
-  pub range : firstBad (layout (kindOf r)) (listOf r) ≡ 0
-  pub output : out′ ≡ stringBytes (stringOf m r)
-
 module _ (m : ℕ) (r : Record) (out out′ : List ℕ) where
   pub writes : IsWritten m r out out′ → Writes m r out Done out′
   unfolding Writes

@@ -2,6 +2,9 @@ pub mod Signed
 pub mod Values
 pub mod Immediate
 pub mod Calls
+pub mod Orders
+pub mod Taken
 pub mod Tidied
+pub mod Ranges
 pub mod Names
 pub mod Known

@@ -10,12 +10,13 @@ use lib.ListN.{getD}
 use Rattle.strings.specs.Pick.{pick}
 use Rattle.strings.specs.Number.{wordOf, bitOf}
 use Rattle.strings.specs.Hamming.{Encoded, encode}
+use Rattle.strings.specs.Table413.{has}
 use Rattle.layout.specs.declared.table.Form.{Form}
 use Rattle.layout.specs.declared.table.Form.the-variants.{Plain, Signed, Time, Interval, Day, Slot, Carrier}
 use Rattle.layout.specs.declared.table.Word.{Word}
 use Rattle.records.specs.declared.kinds.Kind.{Kind}
 use Rattle.layout.specs.Layout.{layout, none}
-use Rattle.layout.specs.Reserved.{reserved, has, inWords}
+use Rattle.layout.specs.Reserved.{reserved, inWords}
 use Rattle.words.specs.Calls.{numberIn}
 
 -- the j-th word of a kind

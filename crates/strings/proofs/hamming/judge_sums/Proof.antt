@@ -14,7 +14,7 @@ one-c : (d : tie.Else3) → d .before .before .args .c ≡ 1
 one-c d = omega arith
 
 weighed-at : (d : tie.Else3) → Weighed (d .before .before .args .s)
-weighed-at d = weighed (d .before .before .args .s) (omega arith)
+weighed-at d = weighed (d .before .before .args .s) (d .if3 .left) (omega arith)
 
 returns : tie.Need-returns
 unfolding judge
@@ -31,7 +31,7 @@ returns-3 c =
     rw (e, c .if3 .taken)
 
 highest-of-requires : tie.Need-highest-of-requires
-highest-of-requires c κs = search needs
+highest-of-requires c κs = (omega (arith, c .if3 .left), omega arith)
 
 sub-if4 : tie.Need-sub-if4
 sub-if4 c = omega (arith, weighed-at (c .before) .least)
