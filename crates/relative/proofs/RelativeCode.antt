@@ -14,6 +14,7 @@ use lib.Pow.{ones-lt}
 use borrow.Author.Tests.{ne-eqb}
 use Rattle.strings.specs.declared.Written.{Written}
 use Rattle.strings.specs.declared.Written.the-variants.{Done, Refused}
+use Rattle.strings.specs.declared.Refusal.{Refusal}
 use Rattle.strings.specs.declared.Refusal.the-variants.{Shape, Idle, Room}
 use Rattle.strings.specs.Pick.{pick}
 use Rattle.strings.specs.Number.{bitOf, fromBits, numberOf, misshapen, stringBytes}
@@ -23,7 +24,7 @@ use Rattle.strings.specs.Calls.{writtenPaper, isIdle}
 use Rattle.relative.specs.Calls.{readingTests, writingTests, ReadsRelative, WritesRelative}
 use Rattle.strings.proofs.Digits.{bit-lt, bit-xor, bits-same, from-lt, bit-from, high-bit}
 use Rattle.strings.proofs.Value.{string-number}
-use Rattle.strings.proofs.Answer.{refuses, goes-on, takes, same-answer, written-same, exactly}
+use Rattle.strings.proofs.Answer.{refuses, goes-on, takes, same-answer, written-same, exactly, refused-left}
 use Rattle.strings.proofs.Shape.{string-shaped, has-room, no-room}
 
 -- ---- the bits of what is read and of what is written, and their bounds: bit 85 is read as 0
@@ -215,6 +216,16 @@ module _ (s out : List ℕ) (r : Written) (out′ : List ℕ) where
   pub writes-exactly : WritesRelative s out r out′ → Exactly (writingTests s out) (writtenPaper r)
   unfolding WritesRelative
   writes-exactly a = exactly tt a
+
+-- "Refusals leave outputs untouched"
+module _ (s out : List ℕ) (q : Refusal) (out′ : List ℕ) where
+  pub reads-untouched : ReadsRelative s out (Refused q) out′ → out′ ≡ out
+  unfolding ReadsRelative
+  reads-untouched a = refused-left q a
+
+  pub writes-untouched : WritesRelative s out (Refused q) out′ → out′ ≡ out
+  unfolding WritesRelative
+  writes-untouched a = refused-left q a
 
 -- ---- over the calls: what they make of the bytes of a string
 reads-string : (x : ℕ) (out : List ℕ) → x < 2 ^ 85 → length out ≡ 11 → ReadsRelative (stringBytes x) out Done (stringBytes (readRelative x))

@@ -227,3 +227,13 @@ pub taken-made : {ts : List Test} {told made out out′ : List ℕ} (l : List �
 taken-made {ts} {told} {made} {out} l a =
     let z : firstOf ts ≡ 0 = sym (ap (λ (l : List ℕ). getD l 0 0) (a .answer) ∙ said-number (firstOf ts) (placeOf ts) told) in
     a .output ∙ ap (λ (k : ℕ). leftBy k made out) z
+
+-- "Refusals leave outputs untouched"
+left-untouched : (k : ℕ) (made out : List ℕ) → (k ≡ 0 → ⊥) → leftBy k made out ≡ out
+left-untouched zero made out h = absurd (h refl)
+left-untouched (suc k) made out h = refl
+
+pub refused-left : {ts : List Test} {told made out out′ : List ℕ} (q : Refusal) → Answers ts told made out (refusalPaper q) out′ → out′ ≡ out
+refused-left {ts} {told} {made} {out} q a =
+    let e = ap (λ (l : List ℕ). getD l 0 0) (a .answer) ∙ said-number (firstOf ts) (placeOf ts) told in
+    a .output ∙ left-untouched (firstOf ts) made out (λ z. true≢false (ap (λ (n : ℕ). eqb n 0) (sym (e ∙ z)) ∙ refusal-known q .1))

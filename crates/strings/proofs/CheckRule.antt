@@ -9,6 +9,7 @@ use native.Mathlib.Omega.{arith}
 use borrow.Author.Tests.{eq-eqb, eqb-false}
 use lib.Dec.{eqb, lit<}
 use lib.ListN.{length}
+use Rattle.strings.specs.declared.Refusal.{Refusal}
 use Rattle.strings.specs.declared.Refusal.the-variants.{Damaged as DAMAGED, Idle}
 use Rattle.strings.specs.declared.Verdict.{Verdict}
 use Rattle.strings.specs.declared.Verdict.the-variants.{Clean, Repaired}
@@ -23,7 +24,7 @@ use Rattle.strings.proofs.Below.{unfit}
 use Rattle.strings.proofs.Digits.{bit-lt, flip-lt, flip-undo}
 use Rattle.strings.proofs.Value.{number-lt, string-number}
 use Rattle.strings.proofs.Shape.{shaped, string-shaped}
-use Rattle.strings.proofs.Answer.{same-answer, checked-same, exactly, taken-made}
+use Rattle.strings.proofs.Answer.{same-answer, checked-same, exactly, taken-made, refused-left}
 use Rattle.strings.proofs.CheckAnswers.{check-damaged, check-idle, check-taken}
 use Rattle.strings.proofs.Judge.{mended-lt}
 use Rattle.strings.proofs.Flips.{encoded-ruling, one-flip-ruling, bit-8-ruling, two-flips-ruling, left-encoded}
@@ -33,6 +34,11 @@ module _ (s out : List ℕ) where
   pub check-once : (r q : Checked) (out′ out″ : List ℕ) → Checks s out r out′ → Checks s out q out″ → (r ≡ q) × (out′ ≡ out″)
   unfolding Checks
   check-once r q out′ out″ a b = let e = same-answer a b in (checked-same r q (e .0), e .1)
+
+  -- "Refusals leave outputs untouched"
+  pub check-untouched : (q : Refusal) (out′ : List ℕ) → Checks s out (Refused q) out′ → out′ ≡ out
+  unfolding Checks
+  check-untouched q out′ a = refused-left q a
 
   pub check-numbers : (r : Checked) (out′ : List ℕ) → Checks s out r out′ → Exactly (checkTests s out) (checkedPaper r)
   unfolding Checks

@@ -1,5 +1,6 @@
 pub mod Below
 pub mod Digits
+pub mod WordOf
 pub mod Value
 pub mod Shape
 pub mod Answer

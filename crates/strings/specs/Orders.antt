@@ -1,10 +1,31 @@
--- The order of the check's tests, whatever it is handed (the paper, "Numbers that say no").
+-- The numbers 1 to 14 and the order of the check's tests, whatever it is handed (the paper, "Numbers that say no").
 -- Assumes nothing.
-use mathlib.Core.List.{List, [], _∷_}
+use mathlib.Core.List.{List, [], _∷_, _++_}
 use mathlib.Core.Path.{_≡_, refl}
 use Prim.Native.Nat.{ℕ}
-use Rattle.strings.specs.Numbers.{numbersOf}
+use Rattle.strings.specs.declared.Refusal.{Refusal}
+use Rattle.strings.specs.declared.Refusal.the-variants.{Channel, Shape, Damaged, Idle, Number, Early, Stale, OffBeat, Conflict, Range, Place, Room, Nothing, Slot}
+use Rattle.strings.specs.Table413.{_to_}
+use Rattle.strings.specs.Numbers.{refusalPaper, numbersOf}
 use Rattle.strings.specs.Calls.{stringTests, checkTests}
+
+-- the names in the order of the paper's table; RANGE tells a place
+abbrev pub refusals : ℕ → List Refusal
+refusals place =
+    Channel ∷ Shape ∷ Damaged ∷ Idle ∷ Number ∷ Early ∷ Stale ∷ OffBeat ∷ Conflict ∷ Range place ∷ Place ∷ Room ∷ Nothing ∷ Slot ∷ []
+
+abbrev pub inPaper : List Refusal → List (List ℕ)
+inPaper [] = []
+inPaper (r ∷ rs) = refusalPaper r ∷ inPaper rs
+
+-- each alone in a list
+abbrev pub singly : List ℕ → List (List ℕ)
+singly [] = []
+singly (n ∷ ns) = (n ∷ []) ∷ singly ns
+
+-- their numbers are 1 to 14, and each is answered alone but for RANGE, which has its place beside it
+pub refusal-numbers : (place : ℕ) → inPaper (refusals place) ≡ singly (1 to 9) ++ ((10 ∷ place ∷ []) ∷ singly (11 to 14))
+refusal-numbers place = refl
 
 -- "Check: 12, 2, 3, 4"
 pub check-order : (s out : List ℕ) → numbersOf (checkTests s out) ≡ 12 ∷ 2 ∷ 3 ∷ 4 ∷ []

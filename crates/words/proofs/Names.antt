@@ -2,29 +2,32 @@
 -- Assumes nothing.
 use mathlib.Core.Path.{_≡_, refl, sym, ap, _∙_, subst}
 use mathlib.Core.Bool.{Bool, true, false}
-use mathlib.Core.List.{List}
+use mathlib.Core.List.{List, _++_}
 use Prim.Native.Nat.{ℕ, zero, suc, _+_, _-_, _*_, _^_, _≤_, _<_}
 use native.Mathlib.Omega.{arith}
 use borrow.Author.Tests.{eqb-true, eqb-false, lt-ltb, le-ltb, le-leb, lt-leb}
 use lib.Dec.{eqb, lit≤}
 use lib.IntN.{ℤ, pos, negℤ, subℕ, _+ℤ_}
+use lib.ListN.{length, take, drop}
+use lib.Seq.{take-all, take-at, drop-at, drop-drop}
 use Rattle.strings.specs.Pick.{pick}
 use Rattle.strings.specs.declared.Written.the-variants.{Done}
 use Rattle.strings.specs.Number.{numberOf, bitOf, wordOf}
 use Rattle.strings.specs.Hamming.{mended}
 use Rattle.strings.proofs.Digits.{bit-lt}
+use Rattle.strings.proofs.WordOf.{word-lt, word-split}
 use Rattle.records.specs.declared.kinds.Kind.{Kind}
 use Rattle.records.specs.declared.kinds.Kind.the-variants.{One, Two, Three, Four, Five, Even, Odd, Fourteen}
 use Rattle.records.specs.declared.named.Record.{Record}
-use Rattle.records.specs.Records.{kindOf, listOf, recordOf}
+use Rattle.records.specs.Records.{string1Of, string2Of, string3Of, string4Of, kindOf, listOf, recordOf}
 use Rattle.records.proofs.RecordLists.{record-list}
 use Rattle.layout.specs.Layout.{layout}
 use Rattle.words.specs.declared.reading.Reading.the-variants.{Read}
 use Rattle.words.specs.Signed.{signedAt}
 use Rattle.words.specs.Values.{carrierOf, valuesOf}
+use Rattle.words.specs.Immediate.{stringAt, immediateOf}
 use Rattle.words.specs.Calls.{Reads, Writes}
-use Rattle.words.specs.Names.{signedIn, Named}
-use Rattle.words.proofs.WordBits.{word-lt, word-split}
+use Rattle.words.specs.Names.{signedIn, OneIn, TwoIn, ThreeIn, FourIn, Named, ImmediateIn}
 use Rattle.words.proofs.RoundTrips.{is-read, written-values}
 
 -- ---- sign and magnitude, by the bits: b is the sign, m the magnitude
@@ -150,3 +153,23 @@ read-named s k m r a =
 -- WHAT IS WRITTEN: m stands in bits 84 to 81, and each word by its name in its bits
 pub written-named : (m : ℕ) (r : Record) (out out′ : List ℕ) → Writes m r out Done out′ → (wordOf (numberOf out′) 84 81 ≡ m) × Named (numberOf out′) r
 written-named m r out out′ a = let v = written-values m r out out′ a in (v .0, named-by (numberOf out′) r (sym (v .1)))
+
+-- ---- AN IMMEDIATE RECORD: four strings of eleven bytes, one after the other, each by name in its own bits
+pub immediate-named : (a b c d : List ℕ) → length a ≡ 11 → length b ≡ 11 → length c ≡ 11 → length d ≡ 11
+    → ImmediateIn (numberOf a) (numberOf b) (numberOf c) (numberOf d) (immediateOf (a ++ (b ++ (c ++ d))))
+unfolding immediateOf recordOf
+immediate-named a b c d h₁ h₂ h₃ h₄ =
+    let s = a ++ (b ++ (c ++ d)) in
+    let e₁ : drop 11 s ≡ b ++ (c ++ d) = drop-at a (b ++ (c ++ d)) 11 h₁ in
+    let e₂ : drop 22 s ≡ c ++ d = sym (drop-drop 11 11 s) ∙ ap (drop 11) e₁ ∙ drop-at b (c ++ d) 11 h₂ in
+    let e₃ : drop 33 s ≡ d = sym (drop-drop 11 22 s) ∙ ap (drop 11) e₂ ∙ drop-at c d 11 h₃ in
+    let n₁ : stringAt s 0 ≡ numberOf a = ap numberOf (take-at a (b ++ (c ++ d)) 11 h₁) in
+    let n₂ : stringAt s 1 ≡ numberOf b = ap (λ (l : List ℕ). numberOf (take 11 l)) e₁ ∙ ap numberOf (take-at b (c ++ d) 11 h₂) in
+    let n₃ : stringAt s 2 ≡ numberOf c = ap (λ (l : List ℕ). numberOf (take 11 l)) e₂ ∙ ap numberOf (take-at c d 11 h₃) in
+    let n₄ : stringAt s 3 ≡ numberOf d = ap (λ (l : List ℕ). numberOf (take 11 l)) e₃ ∙ ap numberOf (take-all 11 d (omega arith)) in
+    record {
+      one = subst (λ (n : ℕ). OneIn (numberOf a) (string1Of (valuesOf n (layout One)))) (sym n₁) (values-named One (numberOf a));
+      two = subst (λ (n : ℕ). TwoIn (numberOf b) (string2Of (valuesOf n (layout Two)))) (sym n₂) (values-named Two (numberOf b));
+      three = subst (λ (n : ℕ). ThreeIn (numberOf c) (string3Of (valuesOf n (layout Three)))) (sym n₃) (values-named Three (numberOf c));
+      four = subst (λ (n : ℕ). FourIn (numberOf d) (string4Of (valuesOf n (layout Four)))) (sym n₄) (values-named Four (numberOf d));
+    }

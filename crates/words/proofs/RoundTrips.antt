@@ -15,21 +15,23 @@ use lib.Dec.{T, eqb, leb, lit<, lit≤}
 use lib.IntN.{ℤ, pos}
 use lib.ListN.{length, getD}
 use lib.Pow.{shr-shr}
+use Rattle.strings.specs.declared.Refusal.{Refusal}
 use Rattle.strings.specs.declared.Verdict.the-variants.{Clean}
 use Rattle.strings.specs.declared.Checked.{Checked}
 use Rattle.strings.specs.declared.Checked.the-variants.{Taken}
 use Rattle.strings.specs.declared.Written.{Written}
-use Rattle.strings.specs.declared.Written.the-variants.{Done}
+use Rattle.strings.specs.declared.Written.the-variants.{Done, Refused as NotWritten}
 use Rattle.strings.specs.Pick.{pick}
 use Rattle.strings.specs.Number.{Bytes, numberOf, misshapen, bitOf, wordOf, stringBytes}
 use Rattle.strings.specs.Hamming.{ruling, isDamaged, mended, Whole, encode}
 use Rattle.strings.specs.Numbers.{firstOf, placeOf, saidBy, Exactly}
 use Rattle.strings.specs.Calls.{writtenPaper, noRoom, isIdle, Checks}
-use Rattle.strings.proofs.Digits.{low-digit, bits-same, three}
+use Rattle.strings.proofs.Digits.{bits-same, three}
+use Rattle.strings.proofs.WordOf.{bit-in-word, word-split}
 use Rattle.strings.proofs.Value.{string-number, string-bytes}
 use Rattle.strings.proofs.Shape.{string-shaped, has-room, shaped}
 use Rattle.strings.proofs.Below.{unfit}
-use Rattle.strings.proofs.Answer.{goes-on, takes, same-answer, refusal-same, written-same, exactly, taken-made}
+use Rattle.strings.proofs.Answer.{goes-on, takes, same-answer, refusal-same, written-same, exactly, taken-made, refused-left}
 use Rattle.strings.proofs.Encode.{encode-encoded, encode-stays, encode-lt, encoded-once}
 use Rattle.strings.proofs.CheckRule.{encoded-clean}
 use Rattle.strings.proofs.Flips.{encoded-ruling}
@@ -54,7 +56,6 @@ use Rattle.layout.proofs.Rows.{layout-long, placed-at}
 use Rattle.layout.proofs.ReservedBits.{reserved-free}
 use Rattle.words.proofs.Loops.{values-long}
 use Rattle.words.proofs.Sign.{never-minus-zero}
-use Rattle.words.proofs.WordBits.{word-split}
 use Rattle.words.proofs.Fits.{and-both, halfOf, formTest, form-test, test-at, signed-near, range-at, data-lt, sound-at, layout-laid, kind-fit, kind-data-lt}
 use Rattle.words.proofs.Trip.{kind-values, kind-values-same, data-values, read-fit, bit-same, word-same, word-data, code-read, gap-data}
 
@@ -83,6 +84,11 @@ module _ (m : ℕ) (r : Record) (out : List ℕ) where
   pub write-once : (w v : Written) (out′ out″ : List ℕ) → Writes m r out w out′ → Writes m r out v out″ → (w ≡ v) × (out′ ≡ out″)
   unfolding Writes
   write-once w v out′ out″ a b = let e = same-answer a b in (written-same w v (e .0), e .1)
+
+  -- "Refusals leave outputs untouched"
+  pub write-untouched : (q : Refusal) (out′ : List ℕ) → Writes m r out (NotWritten q) out′ → out′ ≡ out
+  unfolding Writes
+  write-untouched q out′ a = refused-left q a
 
   pub write-numbers : (w : Written) (out′ : List ℕ) → Writes m r out w out′ → Exactly (writeTests m r out) (writtenPaper w)
   unfolding Writes
@@ -334,12 +340,6 @@ tidied-is k n =
     })
 
 -- ---- and nothing else is: what `Tidy` says leaves no bit open
-pub bit-in-word : (n i top low : ℕ) → 1 ≤ low → low ≤ i → i ≤ top → bitOf n i ≡ wordOf n top low / 2 ^ (i - low) % 2
-unfolding wordOf
-bit-in-word n i top low h l u =
-    let x = n / 2 ^ (low - 1) in
-    sym (low-digit x (top + 1 - low) (i - low) (omega arith) ∙ ap (λ (y : ℕ). y % 2) (shr-shr n (low - 1) (i - low)) ∙ ap (λ (j : ℕ). n / 2 ^ j % 2) (omega arith))
-
 record InWord (ws : List Word) (i : ℕ) : Type 0 where
   index : ℕ
   there : index < length ws

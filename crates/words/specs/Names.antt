@@ -14,6 +14,7 @@ use Rattle.records.specs.declared.named.String5.{String5}
 use Rattle.records.specs.declared.named.EvenString.{EvenString}
 use Rattle.records.specs.declared.named.OddString.{OddString}
 use Rattle.records.specs.declared.named.String14.{String14}
+use Rattle.records.specs.declared.named.ImmediateWords.{ImmediateWords}
 use Rattle.records.specs.declared.named.Record.{Record}
 use Rattle.records.specs.declared.named.Record.the-variants.{One, Two, Three, Four, Five, Even, Odd, Fourteen}
 
@@ -111,3 +112,10 @@ Named s (Five r) = FiveIn s r
 Named s (Even r) = EvenIn s r
 Named s (Odd r) = OddIn s r
 Named s (Fourteen r) = FourteenIn s r
+
+-- the words of strings 1 to 4, each in the bits of its string
+pub record ImmediateIn (s₁ s₂ s₃ s₄ : ℕ) (r : ImmediateWords) : Type 0 where
+  pub one : OneIn s₁ (r .one)
+  pub two : TwoIn s₂ (r .two)
+  pub three : ThreeIn s₃ (r .three)
+  pub four : FourIn s₄ (r .four)
