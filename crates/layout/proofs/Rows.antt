@@ -78,6 +78,19 @@ pub placed-at : (k : Kind) (j : ℕ) → j < 8 → Placed (getD (layout k) j non
 placed-at k j h =
     placed-by (getD (layout k) j none) (below-at 8 (wordTest k) (and-right (eqb (length (layout k)) 8) _ (every-kind kindTest all-right k)) j h)
 
+-- the words of a kind stand in the order of the paper's table, from the highest bit number down: each lies below those before it
+abbrev fallTest : Kind → Bool
+fallTest k = below 8 (λ j. below j (λ i. ltb (getD (layout k) j none .top) (getD (layout k) i none .low)))
+
+all-fall : T (every fallTest kinds)
+unfolding layout
+all-fall = tt
+
+pub words-fall : (k : Kind) (i j : ℕ) → i < j → j < 8 → getD (layout k) j none .top < getD (layout k) i none .low
+words-fall k i j l u =
+    ltb→lt _ _ (below-at j (λ i. ltb (getD (layout k) j none .top) (getD (layout k) i none .low))
+    (below-at 8 (λ j. below j (λ i. ltb (getD (layout k) j none .top) (getD (layout k) i none .low))) (every-kind fallTest all-fall k) j u) i l)
+
 -- the word that the code has for a kind's place
 pub told-at : (k q : Kind) (j : ℕ) (w : Word) → k ≡ q → w ≡ getD (layout q) j none → j < 8 → (w ≡ getD (layout k) j none) × Placed w
 told-at k q j w e f h =

@@ -85,7 +85,7 @@ module _ (k : Kind) (zs : List ℤ) (n : length zs ≡ 8) where
   long = n ∙ sym (layout-long k)
 
   -- p, not 0, is told exactly where it is the top bit number of a word that is out of range while every word before it, higher up
-  -- (`words-fall`), is in range
+  -- (`words-fall` of the layout), is in range
   pub first-bad-is : (p : ℕ) → ((p ≡ 0 → ⊥) × (firstBad (layout k) zs ≡ p)) ↔ FirstOut (layout k) zs p
   first-bad-is p = (
     (λ h. subst (FirstOut (layout k) zs) (h .1) (found (layout k) zs long (λ e. h .0 (sym (h .1) ∙ e)))),

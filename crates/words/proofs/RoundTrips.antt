@@ -1,7 +1,7 @@
 -- The reader and the encoder, over their public relations Reads and Writes. No second answer fits: read-once, write-once. Each number exactly where
--- it belongs: read-numbers, write-numbers. What was written is read: written-then-read. What was read is written again: read-then-written, with
--- tidied-is and tidied-only to say which string that is, and comes-back, where it is the same. What is written has no minus zero and no reserved bit
--- at 1: written-tidy.
+-- it belongs: read-numbers, write-numbers; a refusal writes nothing: write-untouched. What was written is read: written-then-read; and a good string
+-- with one bit flipped as the string itself: flip-reads-alike. What was read is written again: read-then-written, with tidied-is and tidied-only to
+-- say which string that is, and comes-back, where it is the same. What is written has no minus zero and no reserved bit at 1: written-tidy.
 -- Assumes nothing.
 use mathlib.Core.Path.{_≡_, refl, sym, ap, ap₂, _∙_, subst}
 use mathlib.Core.Bool.{Bool, true, false, not, _&&_, _||_, true≢false}
@@ -16,17 +16,17 @@ use lib.IntN.{ℤ, pos}
 use lib.ListN.{length, getD}
 use lib.Pow.{shr-shr}
 use Rattle.strings.specs.declared.Refusal.{Refusal}
-use Rattle.strings.specs.declared.Verdict.the-variants.{Clean}
+use Rattle.strings.specs.declared.Verdict.the-variants.{Clean, Repaired}
 use Rattle.strings.specs.declared.Checked.{Checked}
 use Rattle.strings.specs.declared.Checked.the-variants.{Taken}
 use Rattle.strings.specs.declared.Written.{Written}
 use Rattle.strings.specs.declared.Written.the-variants.{Done, Refused as NotWritten}
 use Rattle.strings.specs.Pick.{pick}
-use Rattle.strings.specs.Number.{Bytes, numberOf, misshapen, bitOf, wordOf, stringBytes}
-use Rattle.strings.specs.Hamming.{ruling, isDamaged, mended, Whole, encode}
+use Rattle.strings.specs.Number.{Bytes, numberOf, misshapen, bitOf, wordOf, flip, stringBytes}
+use Rattle.strings.specs.Hamming.{ruling, isDamaged, mended, Encoded, Whole, encode}
 use Rattle.strings.specs.Numbers.{firstOf, placeOf, saidBy, Exactly}
 use Rattle.strings.specs.Calls.{writtenPaper, noRoom, isIdle, Checks}
-use Rattle.strings.proofs.Digits.{bits-same, three}
+use Rattle.strings.proofs.Digits.{flip-lt, flip-undo, bits-same, three}
 use Rattle.strings.proofs.WordOf.{bit-in-word, word-split}
 use Rattle.strings.proofs.Value.{string-number, string-bytes}
 use Rattle.strings.proofs.Shape.{string-shaped, has-room, shaped}
@@ -34,7 +34,7 @@ use Rattle.strings.proofs.Below.{unfit}
 use Rattle.strings.proofs.Answer.{goes-on, takes, same-answer, refusal-same, written-same, exactly, taken-made, refused-left}
 use Rattle.strings.proofs.Encode.{encode-encoded, encode-stays, encode-lt, encoded-once}
 use Rattle.strings.proofs.CheckRule.{encoded-clean}
-use Rattle.strings.proofs.Flips.{encoded-ruling}
+use Rattle.strings.proofs.Flips.{encoded-ruling, one-flip-ruling}
 use Rattle.strings.proofs.Judge.{mended-by}
 use Rattle.layout.specs.declared.table.Form.{Form}
 use Rattle.layout.specs.declared.table.Form.the-variants.{Signed}
@@ -283,6 +283,27 @@ module _ (m : ℕ) (r : Record) (out out′ : List ℕ) (a : Writes m r out Done
         unused = gap-written;
         printed = λ i t. let p = reserved-free (kindOf r) i t in gap-written i (p .0 .0) (p .0 .1) (p .1);
       }
+
+-- ---- the reader goes by the shape, the ruling and the string as the check leaves it
+reads-by : (s t : List ℕ) (k : Kind) (q : Reading) → misshapen s ≡ misshapen t → isDamaged (ruling (numberOf s)) ≡ isDamaged (ruling (numberOf t))
+    → mended (numberOf s) ≡ mended (numberOf t) → Reads s k q → Reads t k q
+unfolding Reads
+reads-by s t k q e f g a = rw (← e, ← f, ← g) a
+
+-- ONE FLIP READS ALIKE: an encoded string with one bit flipped, but bit 8, is read as the string itself, whatever kind is asked
+pub flip-reads-alike : (n i : ℕ) → n < 2 ^ 85 → Encoded n → 1 ≤ i → i ≤ 85 → (i ≡ 8 → ⊥) → (k : Kind) (q p : Reading)
+    → Reads (stringBytes (flip n i)) k q → Reads (stringBytes n) k p → q ≡ p
+flip-reads-alike n i h v l u ne k q p a b =
+    let m = flip n i in
+    let g = flip-lt 85 n i h l u in
+    let r = one-flip-ruling n i v l u ne in
+    let c = encoded-ruling n v in
+    let e : mended m ≡ mended n = mended-by m (Repaired i) r ∙ flip-undo 85 n i h l u ∙ sym (mended-by n Clean c) in
+    let d : isDamaged (ruling m) ≡ isDamaged (ruling n) = ap isDamaged r ∙ sym (ap isDamaged c) in
+    read-once (stringBytes n) k q p
+    (reads-by (stringBytes m) (stringBytes n) k q (string-shaped m g ∙ sym (string-shaped n h))
+    (ap (λ (x : ℕ). isDamaged (ruling x)) (string-number m g) ∙ d ∙ sym (ap (λ (x : ℕ). isDamaged (ruling x)) (string-number n h)))
+    (ap mended (string-number m g) ∙ e ∙ sym (ap mended (string-number n h))) a) b
 
 -- ---- READ, THEN WRITTEN: the string as the check leaves it, "but that reserved bits and minus zeros become plain zeros and the check bits
 -- follow" (Tidied.antt; what `tidied` is, bit for bit, is `tidied-is` below)

@@ -9,7 +9,7 @@ use Prim.Native.Nat.{ℕ, zero, suc, _+_, _-_, _*_, _/_, _%_, _^_, _≤_, _<_}
 use native.Mathlib.Omega.{arith}
 use native.Mathlib.Nat.{mul-assoc, add-mul, lt-of-lt-of-le, lt-of-le-of-lt, le-of-suc-le-suc, not-suc-le-zero, le-refl, ne-of-lt, pow-suc}
 use borrow.Author.Tests.{lt-ltb, le-ltb, le-leb, lt-leb, leb-true, leb-false, ltb-true, ltb-false, eqb-true, eq-eqb, ne-eqb}
-use lib.Dec.{T, leb, ltb, eqb, ltb→lt}
+use lib.Dec.{T, leb, ltb, eqb}
 use lib.IntN.{ℤ, pos, negsuc, negℤ, natAbs}
 use lib.ListN.{length, getD}
 use lib.Pow as Pow
@@ -18,7 +18,6 @@ use lib.Seq.{ext-getD}
 use lib.Signed.{leZ}
 use Rattle.strings.specs.Pick.{pick}
 use Rattle.strings.specs.Number.{wordOf, bitOf}
-use Rattle.strings.proofs.Below.{below, below-at}
 use Rattle.strings.proofs.Digits.{three}
 use Rattle.layout.specs.declared.table.Form.{Form}
 use Rattle.layout.specs.declared.table.Form.the-variants.{Plain, Signed, Time, Interval, Day, Slot, Carrier}
@@ -28,8 +27,7 @@ use Rattle.layout.specs.Layout.{layout, none, width}
 use Rattle.words.specs.Signed.{signedAt, codeAt}
 use Rattle.words.specs.Values.{carrierOf, carrierCode, valueIn, codeIn, inRange, valuesOf, firstBad, dataOf}
 use Rattle.layout.specs.Reserved.{inWords}
-use Rattle.words.specs.Tidied.{isSigned, wordAt, bitsIn, tidyWord, tidyWords}
-use Rattle.layout.proofs.EveryKind.{kinds, every, every-kind}
+use Rattle.words.specs.Tidied.{isSigned, bitsIn, tidyWord, tidyWords}
 use Rattle.words.proofs.Forms.{Bare, plain-bare, time-bare, interval-bare, day-bare, slot-bare}
 use Rattle.words.proofs.Fits.{halfOf, plainTest, formTest, form-test, test-at, Sound, signed-near, carrier-wide, carrier-near, plain-pos}
 use Rattle.words.proofs.Fits.{laid, laid-of, top-laid, Fit, fit-rest, data-lt, range-at, range-fit, layout-laid}
@@ -277,19 +275,6 @@ data-values n [] t d = refl
 data-values n (w ∷ ws) t d =
     let a = laid-of t w ws d in
     ap₂ (λ (c r : ℕ). c * 2 ^ (w .low - 1) + r) (trips-at t (w ∷ ws) d 0 .clean (bitsIn n w) (word-lt n (w .top) (w .low))) (data-values n ws (w .low - 1) (a .rest))
-
--- so a word of a lower place lies below: words fall
-abbrev fallTest : Kind → Bool
-fallTest k = below 8 (λ j. below j (λ i. ltb (wordAt k j .top) (wordAt k i .low)))
-
-all-fall : T (every fallTest kinds)
-unfolding layout
-all-fall = tt
-
-pub words-fall : (k : Kind) (i j : ℕ) → i < j → j < 8 → wordAt k j .top < wordAt k i .low
-words-fall k i j l u =
-    ltb→lt _ _ (below-at j (λ i. ltb (wordAt k j .top) (wordAt k i .low))
-    (below-at 8 (λ j. below j (λ i. ltb (wordAt k j .top) (wordAt k i .low))) (every-kind fallTest all-fall k) j u) i l)
 
 module _ (k : Kind) where
   -- WRITTEN AND READ, of any kind: whatever h stands above the data
