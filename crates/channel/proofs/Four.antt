@@ -16,7 +16,7 @@ use Rattle.channel.specs.Frame.{newsAt}
 use Rattle.channel.specs.Row.{isPresent, framed}
 
 -- the four low bits of a mask, one by one
-low-four : (mask : ℕ) → mask % 16 ≡ mask / 8 % 2 * 8 + (mask / 4 % 2 * 4 + (mask / 2 % 2 * 2 + mask % 2))
+pub low-four : (mask : ℕ) → mask % 16 ≡ mask / 8 % 2 * 8 + (mask / 4 % 2 * 4 + (mask / 2 % 2 * 2 + mask % 2))
 low-four mask =
     mod-pow-add mask 1 3
     ∙ ap (λ (x : ℕ). mask / 8 % 2 * 8 + x) (mod-pow-add mask 1 2 ∙ ap (λ (x : ℕ). mask / 4 % 2 * 4 + x) (mod-pow-add mask 1 1))
