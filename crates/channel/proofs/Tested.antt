@@ -2,7 +2,7 @@
 -- eleven bytes and padding 0 (all-pass).
 -- Assumes nothing.
 use mathlib.Core.Path.{_≡_, refl, sym, ap, _∙_}
-use mathlib.Core.Bool.{Bool, true, false, not, _&&_}
+use mathlib.Core.Bool.{Bool, true, false, not}
 use mathlib.Core.List.{List, [], _∷_}
 use Prim.Native.Nat.{ℕ, zero, suc, _+_, _-_, _*_, _%_, _^_, _≤_}
 use native.Mathlib.Nat.{mul-add-mod-self-right, mul-assoc}
@@ -14,7 +14,7 @@ use lib.ListN.{length, getD}
 use lib.Pow.{pow-add}
 use Rattle.strings.specs.Number.{valueOf, paddingOf, misshapen, bitOf}
 use Rattle.strings.specs.Hamming.{ruling, isDamaged}
-use Rattle.strings.specs.Numbers.{test, firstOf, placeOf, saidBy, answerOf}
+use Rattle.strings.specs.Numbers.{Test, test, firstOf, placeOf, saidBy, answerOf}
 use Rattle.strings.specs.Calls.{isIdle}
 use Rattle.strings.proofs.Digits.{bit-lt}
 use Rattle.strings.proofs.Shape.{shaped, well-made}
@@ -23,7 +23,7 @@ use Rattle.book.proofs.Good.{both}
 use Rattle.hearing.specs.Hears.{plainOf, wholeOf, verdictIn}
 use Rattle.channel.specs.declared.Row.{Row}
 use Rattle.channel.specs.declared.Offered.{Offered}
-use Rattle.channel.specs.Frame.{Frame, startOf, dataIn, isOfFrame, isHere}
+use Rattle.channel.specs.Frame.{Frame, isOfFrame, isHere, placeTests}
 use Rattle.channel.specs.Row.{isPresent, holdsFrame, frameOf}
 use Rattle.channel.specs.Offers.{answerPaper, toldOf, offerTests, Offers}
 use Rattle.channel.specs.Laws.{said, IsTaken, mOf, startAt, maskBit, HoldsFrame, Passes, IsHeld}
@@ -108,25 +108,22 @@ none-of false false false false false false false true q = let z : _≡_ {A = �
 none-of false false false false false false false false q =
     record { two = refl; three = refl; four = refl; five = refl; six = refl; seven = refl; eight = refl; nine = refl }
 
--- 7 to 9 of a frame
-abbrev staleTest : Frame → ℕ → ℕ → Bool
-staleTest f epoch n = f .held && ltb (startOf epoch n) (f .start)
+-- 7 to 9 of a frame: the last three of the five that look at it
+abbrev fitsAt : Frame → ℕ → ℕ → ℕ → Bool
+fitsAt f epoch n j = getD (placeTests f epoch n) j (test 0 false) .fits
 
-abbrev beatTest : Frame → ℕ → ℕ → Bool
-beatTest f epoch n = f .held && (ltb (f .start) (startOf epoch n) && ltb (startOf epoch n) (f .start + 15))
-
-abbrev dataTest : Frame → ℕ → ℕ → Bool
-dataTest f epoch n = isHere f epoch n && not (eqb (dataIn (f .text (numberIn n))) (dataIn n))
+abbrev lastThree : Frame → ℕ → ℕ → List Test
+lastThree f epoch n = test 7 (fitsAt f epoch n 2) ∷ test 8 (fitsAt f epoch n 3) ∷ test 9 (fitsAt f epoch n 4) ∷ []
 
 module _ (f : Frame) (epoch : ℕ) (s : List ℕ) (t : firstOf (offerTests f epoch s) ≡ 0) where
   abbrev string : ℕ
   string = wholeOf s
 
   pub none-fits : NoneOf (misshapen s) (isDamaged (ruling (plainOf s))) (isIdle string) (eqb (numberIn string) 0) (ltb epoch (numberIn string - 1))
-      (staleTest f epoch string) (beatTest f epoch string) (dataTest f epoch string)
+      (fitsAt f epoch string 2) (fitsAt f epoch string 3) (fitsAt f epoch string 4)
   none-fits =
       none-of (misshapen s) (isDamaged (ruling (plainOf s))) (isIdle string) (eqb (numberIn string) 0) (ltb epoch (numberIn string - 1))
-      (staleTest f epoch string) (beatTest f epoch string) (dataTest f epoch string) t
+      (fitsAt f epoch string 2) (fitsAt f epoch string 3) (fitsAt f epoch string 4) t
 
   -- WHAT IS TAKEN PASSED 2 TO 6: it has eleven bytes and padding 0
   pub all-pass : Passes epoch s
@@ -194,12 +191,12 @@ module _ (row : Row) (epoch : ℕ) (s : List ℕ) (r : Offered) (o : Offers row 
   taken-passes t = all-pass frame epoch s (taken-first t)
 
   -- what passed is answered by 7 to 9
-  pub passed-said : Passes epoch s → answerPaper (r .answer) ≡ answerOf (test 7 (staleTest frame epoch n) ∷ test 8 (beatTest frame epoch n) ∷ test 9 (dataTest frame epoch n) ∷ []) (toldOf frame epoch n (verdictIn s))
+  pub passed-said : Passes epoch s → answerPaper (r .answer) ≡ answerOf (lastThree frame epoch n) (toldOf frame epoch n (verdictIn s))
   passed-said p =
       let q = past epoch s p in
       said-by row epoch s r o ∙ rw (q .shape, q .sound, q .idle, q .number, q .early)
 
-  pub passed-first : Passes epoch s → said r 0 ≡ firstOf (test 7 (staleTest frame epoch n) ∷ test 8 (beatTest frame epoch n) ∷ test 9 (dataTest frame epoch n) ∷ [])
+  pub passed-first : Passes epoch s → said r 0 ≡ firstOf (lastThree frame epoch n)
   passed-first p =
       let q = past epoch s p in
       first-is ∙ rw (q .shape, q .sound, q .idle, q .number, q .early)
