@@ -3,9 +3,9 @@
 use mathlib.Core.Path.{_≡_, refl, sym, ap, _∙_}
 use mathlib.Core.Bool.{Bool, true, false, _&&_}
 use mathlib.Core.List.{List}
-use Prim.Native.Nat.{ℕ, _+_, _*_, _/_, _%_}
+use Prim.Native.Nat.{ℕ, _+_, _*_, _/_, _%_, _≤_}
 use native.Mathlib.Omega.{arith}
-use borrow.Author.Tests.{eq-eqb, ne-eqb, eqb-true, eqb-false}
+use borrow.Author.Tests.{eq-eqb, ne-eqb, eqb-true, eqb-false, le-leb}
 use lib.Dec.{eqb, leb}
 use lib.Pow.{mod-pow-add}
 use Rattle.strings.specs.Pick.{pick}
@@ -16,7 +16,7 @@ use Rattle.channel.specs.Frame.{newsAt}
 use Rattle.channel.specs.Row.{isPresent, framed}
 
 -- the four low bits of a mask, one by one
-low-four : (mask : ℕ) → mask % 16 ≡ mask / 8 % 2 * 8 + (mask / 4 % 2 * 4 + (mask / 2 % 2 * 2 + mask % 2))
+pub low-four : (mask : ℕ) → mask % 16 ≡ mask / 8 % 2 * 8 + (mask / 4 % 2 * 4 + (mask / 2 % 2 * 2 + mask % 2))
 low-four mask =
     mod-pow-add mask 1 3
     ∙ ap (λ (x : ℕ). mask / 8 % 2 * 8 + x) (mod-pow-add mask 1 2 ∙ ap (λ (x : ℕ). mask / 4 % 2 * 4 + x) (mod-pow-add mask 1 1))
@@ -55,3 +55,7 @@ news-is start p s m =
     by true true false c d w x y z = refl
     by true false b c d w x y z = refl
     by false a b c d w x y z = refl
+
+-- where m is one of the four and all four are present, it is told of their words
+pub four-news : (p : ℕ) (s : List ℕ) (m : ℕ) → m ≤ 4 → p % 16 ≡ 15 → newsAt (framed 0 p s) m ≡ pick (areGood s) RecordBuilt RecordOutOfRange
+four-news p s m l e = rw (news-is 0 p s m, le-leb m 4 l, eq-eqb (p % 16) 15 e)

@@ -2,8 +2,8 @@
 use Prim.Native.Nat.{_%_}
 use native.Mathlib.Omega.{arith}
 use borrow.Author.Needs.{needs}
-use borrow.Author.Tests.{le-leb, lt-leb, eq-eqb, ne-eqb}
-use Rattle.channel.proofs.Four.{news-is}
+use borrow.Author.Tests.{le-leb, lt-leb, ne-eqb}
+use Rattle.channel.proofs.Four.{news-is, four-news}
 use Rattle.channel.proofs.completing.news_at.Statement.{statement}
 use Rattle.channel.proofs.completing.news_at.Tie as tie
 
@@ -25,25 +25,13 @@ returns-3 : tie.Need-returns-3
 returns-3 c =
     let f = c .before .before in
     let a = f .before .before .before .args in
-    rw (
-      news-is 0 (a .mask) (a .all .now) (a .m),
-      le-leb (a .m) 4 (f .before .if1 .left),
-      eq-eqb (a .mask % 16) 15 (f .if2 .left),
-      ← c .before .are-good .ensures,
-      c .if3 .taken,
-    )
+    rw (four-news (a .mask) (a .all .now) (a .m) (f .before .if1 .left) (f .if2 .left), ← c .before .are-good .ensures, c .if3 .taken)
 
 returns-4 : tie.Need-returns-4
 returns-4 c =
     let f = c .before .before in
     let a = f .before .before .before .args in
-    rw (
-      news-is 0 (a .mask) (a .all .now) (a .m),
-      le-leb (a .m) 4 (f .before .if1 .left),
-      eq-eqb (a .mask % 16) 15 (f .if2 .left),
-      ← c .before .are-good .ensures,
-      c .if3 .left,
-    )
+    rw (four-news (a .mask) (a .all .now) (a .m) (f .before .if1 .left) (f .if2 .left), ← c .before .are-good .ensures, c .if3 .left)
 
 pub news-at-spec : {M : Type 1} → statement M
 news-at-spec = tie.close (tie.spec returns returns-2 are-good-requires returns-3 returns-4)
