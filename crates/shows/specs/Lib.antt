@@ -1,2 +1,4 @@
 pub mod Shows
 pub mod Witness
+pub mod FrameNumbers
+pub mod ShownExactly
