@@ -1,31 +1,31 @@
 -- Where a frame shows an entry, and which, in its strings and their bits: the rule of the pair, by the frame's number (`number-by-six`), and the
 -- book's law of three strings (`shown-exactly`).
 -- Assumes nothing.
-use mathlib.Core.Path.{_≡_, refl, sym, ap, _∙_, subst}
-use mathlib.Core.Bool.{Bool, true, false, not, _&&_, _||_, false≢true, Bool·beq}
-use mathlib.Core.Logic.{_↔_, _⊎_, inl, inr}
+use mathlib.Core.Path.{_≡_, refl, sym, ap, _∙_}
+use mathlib.Core.Bool.{Bool, true, false, _&&_, _||_, false≢true, Bool·beq}
+use mathlib.Core.Logic.{_⊎_, inl, inr}
 use Prim.Native.Nat.{ℕ, zero, suc, _+_, _*_, _<_}
 use native.Mathlib.Omega.{arith}
-use borrow.Author.Tests.{eq-eqb, ne-eqb, eqb-true}
+use borrow.Author.Tests.{eqb-true}
 use lib.Dec.{T, eqb, leb}
 use lib.ListN.{getD}
 use Rattle.strings.specs.Pick.{pick}
 use Rattle.strings.specs.Number.{wordOf}
-use Rattle.strings.proofs.Below.{below, below-at}
+use Rattle.strings.proofs.Below.{below-at}
 use Rattle.words.proofs.WordBits.{word-lt}
 use Rattle.book.specs.declared.Entry.{Entry}
 use Rattle.book.specs.declared.Shown.the-variants.{Nothing, At}
 use Rattle.book.specs.Shows.{shownBy}
-use Rattle.book.specs.ShownExactly.{SomeEntry, InRange, EntryShown}
+use Rattle.book.specs.ShownExactly.{SomeEntry}
 use Rattle.book.proofs.Good.{both}
 use Rattle.book.proofs.ShownExactly.{shown-exactly}
 use Rattle.channel.specs.Frame.{Frame}
 use Rattle.shows.specs.Shows.{frameNumber, isPair, hasPair, shownAt, showsOf}
 use Rattle.shows.specs.FrameNumbers.{framesBy}
-use Rattle.shows.specs.ShownExactly.{ThreeGood, IsEarlier, BeginsOneTo4, InOneTo4, FrameShows}
+use Rattle.shows.specs.ShownExactly.{ThreeGood, IsEarlier, IsFirst, InFrames1To4, FrameShows}
 use Rattle.shows.proofs.FrameNumbers.{number-by-six}
 
--- ---- a test that holds or not
+-- ---- of two tests
 either : (a b : Bool) → (a || b) ≡ true → (a ≡ true) ⊎ (b ≡ true)
 either true b e = inl refl
 either false b e = inr e
@@ -37,18 +37,18 @@ same false true t = absurd t
 same false false t = refl
 
 -- ---- frames 1 to 4
-abbrev isOneTo4 : ℕ → Bool
-isOneTo4 number = leb 1 number && leb number 4
+abbrev is1To4 : ℕ → Bool
+is1To4 number = leb 1 number && leb number 4
 
-abbrev beginsOne : ℕ → Bool
-beginsOne na = eqb na 1 || (eqb na 6 || (eqb na 11 || eqb na 16))
+abbrev isFirst : ℕ → Bool
+isFirst na = eqb na 1 || (eqb na 6 || (eqb na 11 || eqb na 16))
 
 -- by the table, computed at every nA
-begins : (na : ℕ) → na < 32 → isOneTo4 (getD framesBy na 0) ≡ beginsOne na
-begins na h = same _ _ (below-at 32 (λ k. Bool·beq (isOneTo4 (getD framesBy k 0)) (beginsOne k)) tt na h)
+table-first : (na : ℕ) → na < 32 → is1To4 (getD framesBy na 0) ≡ isFirst na
+table-first na h = same _ _ (below-at 32 (λ k. Bool·beq (is1To4 (getD framesBy k 0)) (isFirst k)) tt na h)
 
-begins-to : (na : ℕ) → beginsOne na ≡ true → BeginsOneTo4 na
-begins-to na e = one (either (eqb na 1) _ e)
+first-to : (na : ℕ) → isFirst na ≡ true → IsFirst na
+first-to na e = one (either (eqb na 1) _ e)
   where
     three : (eqb na 11 ≡ true) ⊎ (eqb na 16 ≡ true) → (na ≡ 11) ⊎ (na ≡ 16)
     three (inl q) = inl (eqb-true na 11 q)
@@ -58,36 +58,36 @@ begins-to na e = one (either (eqb na 1) _ e)
     two (inl q) = inl (eqb-true na 6 q)
     two (inr r) = inr (three (either (eqb na 11) (eqb na 16) r))
 
-    one : (eqb na 1 ≡ true) ⊎ ((eqb na 6 || (eqb na 11 || eqb na 16)) ≡ true) → BeginsOneTo4 na
+    one : (eqb na 1 ≡ true) ⊎ ((eqb na 6 || (eqb na 11 || eqb na 16)) ≡ true) → IsFirst na
     one (inl q) = inl (eqb-true na 1 q)
     one (inr r) = inr (two (either (eqb na 6) (eqb na 11 || eqb na 16) r))
 
-begins-from : (na : ℕ) → BeginsOneTo4 na → beginsOne na ≡ true
-begins-from na (inl e) = ap beginsOne e
-begins-from na (inr (inl e)) = ap beginsOne e
-begins-from na (inr (inr (inl e))) = ap beginsOne e
-begins-from na (inr (inr (inr e))) = ap beginsOne e
+first-from : (na : ℕ) → IsFirst na → isFirst na ≡ true
+first-from na (inl e) = ap isFirst e
+first-from na (inr (inl e)) = ap isFirst e
+first-from na (inr (inr (inl e))) = ap isFirst e
+first-from na (inr (inr (inr e))) = ap isFirst e
 
-in-to : (f : Frame) → isOneTo4 (frameNumber f) ≡ true → InOneTo4 f
+in-to : (f : Frame) → is1To4 (frameNumber f) ≡ true → InFrames1To4 f
 in-to f e = by (f .has 6) refl
   where
-    by : (t : Bool) → f .has 6 ≡ t → InOneTo4 f
+    by : (t : Bool) → f .has 6 ≡ t → InFrames1To4 f
     by true q =
         let na = wordOf (f .text 6) 77 73 in
-        record { six = q; nA = begins-to na (sym (begins na (word-lt (f .text 6) 77 73)) ∙ ap isOneTo4 (sym (number-by-six f .with-six q)) ∙ e) }
-    by false q = absurd (false≢true (ap isOneTo4 (sym (number-by-six f .without q)) ∙ e))
+        record { six = q; nA = first-to na (sym (table-first na (word-lt (f .text 6) 77 73)) ∙ ap is1To4 (sym (number-by-six f .with-six q)) ∙ e) }
+    by false q = absurd (false≢true (ap is1To4 (sym (number-by-six f .without q)) ∙ e))
 
-in-from : (f : Frame) → InOneTo4 f → isOneTo4 (frameNumber f) ≡ true
+in-from : (f : Frame) → InFrames1To4 f → is1To4 (frameNumber f) ≡ true
 in-from f i =
     let na = wordOf (f .text 6) 77 73 in
-    ap isOneTo4 (number-by-six f .with-six (i .six)) ∙ begins na (word-lt (f .text 6) 77 73) ∙ begins-from na (i .nA)
+    ap is1To4 (number-by-six f .with-six (i .six)) ∙ table-first na (word-lt (f .text 6) 77 73) ∙ first-from na (i .nA)
 
 -- ---- the rule of the pair
 earlier-pair : (f : Frame) (p : ℕ) → IsEarlier p → isPair f p ≡ true
-earlier-pair f p (inl e) = rw (ne-eqb p 14 (λ q. omega arith))
-earlier-pair f p (inr (inl e)) = rw (ne-eqb p 14 (λ q. omega arith))
-earlier-pair f p (inr (inr (inl e))) = rw (ne-eqb p 14 (λ q. omega arith))
-earlier-pair f p (inr (inr (inr e))) = rw (ne-eqb p 14 (λ q. omega arith))
+earlier-pair f p (inl e) = ap (isPair f) e
+earlier-pair f p (inr (inl e)) = ap (isPair f) e
+earlier-pair f p (inr (inr (inl e))) = ap (isPair f) e
+earlier-pair f p (inr (inr (inr e))) = ap (isPair f) e
 
 -- ---- what is shown at a pair: both halves and string 5 are there, they are a pair, and the three show it
 module _ (f : Frame) (p : ℕ) where

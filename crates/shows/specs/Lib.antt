@@ -1,4 +1,4 @@
 pub mod Shows
-pub mod Witness
 pub mod FrameNumbers
 pub mod ShownExactly
+pub mod Witness

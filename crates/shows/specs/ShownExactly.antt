@@ -24,19 +24,20 @@ pub record ThreeGood (f : Frame) (p : ℕ) : Type 0 where
 abbrev pub IsEarlier : ℕ → Type 0
 IsEarlier p = (p ≡ 6) ⊎ ((p ≡ 8) ⊎ ((p ≡ 10) ⊎ (p ≡ 12)))
 
--- "In frames 1..4": string 6 is there, with nA 1, 6, 11 or 16
-abbrev pub BeginsOneTo4 : ℕ → Type 0
-BeginsOneTo4 na = (na ≡ 1) ⊎ ((na ≡ 6) ⊎ ((na ≡ 11) ⊎ (na ≡ 16)))
+-- the first satellites of frames 1 to 4 (Table 4.1)
+abbrev pub IsFirst : ℕ → Type 0
+IsFirst na = (na ≡ 1) ⊎ ((na ≡ 6) ⊎ ((na ≡ 11) ⊎ (na ≡ 16)))
 
-pub record InOneTo4 (f : Frame) : Type 0 where
+-- "In frames 1..4": string 6 is there, with one of them
+pub record InFrames1To4 (f : Frame) : Type 0 where
   pub six : f .has 6 ≡ true
-  pub nA : BeginsOneTo4 (wordOf (f .text 6) 77 73)
+  pub nA : IsFirst (wordOf (f .text 6) 77 73)
 
 pub record FrameShows (f : Frame) : Type 0 where
   -- "Pairs 6-7 to 12-13 need no frame number"
   pub earlier : (p : ℕ) → IsEarlier p → SomeEntry (shownAt f p) ↔ ThreeGood f p
   -- "In frames 1..4, strings 14 and 15 are an almanac pair; in frame 5, or with the number unknown, they are no pair"
-  pub last : SomeEntry (shownAt f 14) ↔ (ThreeGood f 14 × InOneTo4 f)
+  pub last : SomeEntry (shownAt f 14) ↔ (ThreeGood f 14 × InFrames1To4 f)
   -- the slot is the nA of string p, the day that of string 5, and the bits those of strings p and p+1
   pub what : (p slot : ℕ) (e : Entry) → shownAt f p ≡ At slot e → EntryShown (f .text 5) (f .text p) (f .text (p + 1)) slot e
   -- and these five pairs are all
