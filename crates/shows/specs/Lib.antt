@@ -1,2 +1,4 @@
 pub mod Shows
+pub mod FrameNumbers
+pub mod ShownExactly
 pub mod Witness
