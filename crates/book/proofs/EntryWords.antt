@@ -11,7 +11,7 @@ use lib.IntN.{ℤ, pos, negℤ}
 use lib.Pow.{shl-shr, shr-shr, field, mod-mod-pow}
 use Rattle.strings.specs.Pick.{pick}
 use Rattle.strings.specs.Number.{wordOf}
-use Rattle.words.specs.Layout.{layout}
+use Rattle.layout.specs.Layout.{layout}
 use Rattle.words.specs.Signed.{signedAt}
 use Rattle.words.specs.Values.{valuesOf, carrierOf}
 use Rattle.words.proofs.WordBits.{word-lt}
