@@ -27,6 +27,7 @@ use Rattle.relative.specs.Relative.{writeRelative, readRelative, inverse}
 use Rattle.relative.proofs.RelativeCode.{read-written, written-lt, inverse-lt, inverse-alike}
 use Rattle.hearing.specs.Hears.{plainOf, wholeOf}
 use Rattle.book.specs.declared.Book.{Book}
+use Rattle.tallies.specs.Tallies.{afterOffer}
 use Rattle.tallies.specs.Tallies.Outcome.{Taken}
 use Rattle.channel.specs.declared.Row.{Row}
 use Rattle.channel.specs.Row.{holdsFrame, frameOf, counted}
@@ -34,8 +35,10 @@ use Rattle.channel.specs.Offers.{answerPaper, offerTests, takenRow, offeredRow}
 use Rattle.shows.specs.Shows.{showsOf, brought}
 use Rattle.station.specs.declared.Station.{Station}
 use Rattle.station.specs.declared.Stepped.{Stepped}
+use Rattle.station.specs.declared.TalliesFound.{TalliesFound}
 use Rattle.station.specs.Station.{noRow, rowAt, isNoChannel, bookAfter, stationAfter, OffersTo}
-use Rattle.station.specs.Sent.{GoodString, mOf, SentAs, IsBit, Awaits, SameButVerdict, HeardAsSent}
+use Rattle.station.specs.Queries.{fourCounts, talliesPaper, FindsTallies}
+use Rattle.station.specs.Sent.{SentString, mOf, SentAs, IsBit, Awaits, talliesAt, SameButVerdict, HeardAsSent}
 
 -- ---- upright or inverted, a string has its shape and is read as it was
 module _ (k : ℕ) (s : List ℕ) (h : k < 2 ^ 84) (e : SentAs k s) where
@@ -57,7 +60,7 @@ record LeftAs (s : List ℕ) (n : ℕ) (v : Verdict) : Type 0 where
   rules : ruling (plainOf s) ≡ Sound v
   whole : wholeOf s ≡ n
 
-module _ (n : ℕ) (g : GoodString n) where
+module _ (n : ℕ) (g : SentString n) where
   low : n < 2 ^ 84
   low = omega (arith, g .small, g .idle)
 
@@ -91,18 +94,19 @@ not-four m = by (leb m 4) (eqb 1 m) (eqb 2 m) refl refl
     by true true false p q = refl
     by true true true p q = let x = eqb-true 1 m p in let y = eqb-true 2 m q in absurd (omega arith)
 
+-- ---- the channels 0 to 23 are served
+is-served : (c : ℕ) → c ≤ 23 → isNoChannel c ≡ false
+is-served c l = le-ltb 23 c l
+
 -- ---- DAMAGED, whatever the channel holds
 damaged : (st : Station) (c epoch k : ℕ) (s : List ℕ) (r : Stepped) → c ≤ 23 → k < 2 ^ 84 → isDamaged (ruling k) ≡ true → SentAs k s
     → OffersTo st c epoch s r → answerPaper (r .answer) ≡ 3 ∷ []
-damaged st c epoch k s r l h d e o = o .answer ∙ rw (le-ltb 23 c l, sent-shaped k s h e, sent-plain k s h e, d)
+damaged st c epoch k s r l h d e o = o .answer ∙ rw (is-served c l, sent-shaped k s h e, sent-plain k s h e, d)
 
 -- ---- bytes that the check leaves as n with the verdict v, where their channel awaits that string
 module _ (st : Station) (c epoch n : ℕ) (a : Awaits st c epoch n) (idle : bitOf n 85 ≡ 0) (s : List ℕ) (v : Verdict) (w : LeftAs s n v) where
   abbrev row : Row
   row = rowAt st c
-
-  is-served : isNoChannel c ≡ false
-  is-served = le-ltb 23 c (a .served)
 
   holds-none : holdsFrame (row .present) ≡ false
   unfolding holdsFrame
@@ -119,7 +123,7 @@ module _ (st : Station) (c epoch n : ℕ) (a : Awaits st c epoch n) (idle : bitO
 
   -- taken, and kept
   taken : (r : Stepped) → OffersTo st c epoch s r → answerPaper (r .answer) ≡ 0 ∷ mOf n ∷ (verdictPaper v ++ (1 ∷ []))
-  taken r o = o .answer ∙ rw (is-served, w .shape, w .rules, w .whole, not-idle, not-zero, in-time, holds-none, not-four (mOf n))
+  taken r o = o .answer ∙ rw (is-served c (a .served), w .shape, w .rules, w .whole, not-idle, not-zero, in-time, holds-none, not-four (mOf n))
 
   -- the row and the book that it leaves
   clear : firstOf (offerTests (frameOf row) epoch s) ≡ 0
@@ -138,7 +142,7 @@ module _ (st : Station) (c epoch n : ℕ) (a : Awaits st c epoch n) (idle : bitO
   module _ (r : Stepped) (o : OffersTo st c epoch s r) where
     station-left : r .station ≡ record { rows = set (st .rows) c next; book = brought (st .book) (showsOf (frameOf (takenRow row epoch n))) }
     unfolding stationAfter
-    station-left = o .station ∙ rw is-served (ap₂ (λ (x : Row) (b : Book). record { rows = set (st .rows) c x; book = b }) row-left book-left)
+    station-left = o .station ∙ rw (is-served c (a .served)) (ap₂ (λ (x : Row) (b : Book). record { rows = set (st .rows) c x; book = b }) row-left book-left)
 
     its-row : length (st .rows) ≡ 24 → rowAt (r .station) c ≡ next
     its-row long = ap (λ (x : Station). rowAt x c) station-left ∙ getD-set-same (st .rows) c next noRow (omega (arith, a .served))
@@ -146,8 +150,14 @@ module _ (st : Station) (c epoch n : ℕ) (a : Awaits st c epoch n) (idle : bitO
     other-row : (k : ℕ) → (k ≡ c → ⊥) → rowAt (r .station) k ≡ rowAt st k
     other-row k d = ap (λ (x : Station). rowAt x k) station-left ∙ getD-set-other (st .rows) c k next noRow d
 
+  -- and the tallies that are then told
+  told : (r : Stepped) (t : TalliesFound) → OffersTo st c epoch s r → length (st .rows) ≡ 24 → FindsTallies (r .station) c t
+      → talliesPaper t ≡ 0 ∷ fourCounts (afterOffer (Taken v) (talliesAt st c))
+  unfolding FindsTallies counted takenRow
+  told r t o long f = f ∙ rw (is-served c (a .served)) (ap (λ (z : Row). 0 ∷ fourCounts (z .tallies)) (its-row r o long))
+
 -- ---- the string as it is and with bit i wrong leave one station, but for the verdict's tally
-same-left : (st : Station) (c epoch n : ℕ) → GoodString n → (i : ℕ) (s t : List ℕ) (q r : Stepped) → length (st .rows) ≡ 24 → Awaits st c epoch n
+same-left : (st : Station) (c epoch n : ℕ) → SentString n → (i : ℕ) (s t : List ℕ) (q r : Stepped) → length (st .rows) ≡ 24 → Awaits st c epoch n
     → IsBit i → (i ≡ 8 → ⊥) → SentAs n s → OffersTo st c epoch s q → SentAs (flip n i) t → OffersTo st c epoch t r
     → SameButVerdict st c (q .station) (r .station)
 unfolding counted takenRow
@@ -173,12 +183,14 @@ same-left st c epoch n g i s t q r long a b ne e o f p =
     }
 
 -- ---- A STRING IS HEARD AS IT WAS SENT
-pub heard-as-sent : (st : Station) (c epoch n : ℕ) → GoodString n → HeardAsSent st c epoch n
+pub heard-as-sent : (st : Station) (c epoch n : ℕ) → SentString n → HeardAsSent st c epoch n
 heard-as-sent st c epoch n g =
     record {
       clean = λ s r a e o. taken st c epoch n a (g .idle) s Clean (left-clean n g s e) r o;
       one-flip = λ i s r a b ne e o. taken st c epoch n a (g .idle) s (Repaired i) (left-repaired n g i b s ne e) r o;
       left = same-left st c epoch n g;
+      clean-told = λ s r t long a e o f. told st c epoch n a (g .idle) s Clean (left-clean n g s e) r t o long f;
+      repaired-told = λ i s r t long a b ne e o f. told st c epoch n a (g .idle) s (Repaired i) (left-repaired n g i b s ne e) r t o long f;
       bit-8 = λ s r l e o. damaged st c epoch (flip n 8) s r l (flip-low n g 8 (lit≤ tt, lit≤ tt)) (bit-8-ruling n (g .encoded)) e o;
       two-flips = λ i j s r l b d ne e o.
           damaged st c epoch (flip (flip n i) j) s r l (flip-lt 84 (flip n i) j (flip-low n g i b) (d .0) (d .1))

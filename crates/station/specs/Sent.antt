@@ -12,16 +12,19 @@ use Rattle.strings.specs.Number.{numberOf, bitOf, wordOf, flip, stringBytes}
 use Rattle.strings.specs.Hamming.{position, sumC, sumAll, syndrome, Encoded}
 use Rattle.strings.specs.Known.{a}
 use Rattle.relative.specs.Relative.{writeRelative, inverse}
+use Rattle.tallies.specs.declared.Tallies.{Tallies}
 use Rattle.tallies.specs.Tallies.{oneMore}
 use Rattle.channel.specs.Row.{emptyRow}
 use Rattle.channel.specs.Offers.{answerPaper}
 use Rattle.station.specs.declared.Station.{Station}
 use Rattle.station.specs.declared.Stepped.{Stepped}
+use Rattle.station.specs.declared.TalliesFound.{TalliesFound}
 use Rattle.station.specs.Station.{freshStation, rowAt, OffersTo}
+use Rattle.station.specs.Queries.{talliesPaper, FindsTallies}
 
 -- ---- a string, and how it is sent
 -- 85 bits, the idle bit 0, every sum 0
-pub record GoodString (n : ℕ) : Type 0 where
+pub record SentString (n : ℕ) : Type 0 where
   pub small : n < 2 ^ 85
   pub idle : bitOf n 85 ≡ 0
   pub encoded : Encoded n
@@ -46,6 +49,9 @@ pub record Awaits (st : Station) (c epoch n : ℕ) : Type 0 where
   pub not-early : mOf n - 1 ≤ epoch
 
 -- ---- what is left of a station that has taken the string as clean, and of the same that has taken it with one bit wrong: they differ in two tallies
+abbrev pub talliesAt : Station → ℕ → Tallies
+talliesAt st c = rowAt st c .tallies
+
 pub record SameButVerdict (before : Station) (c : ℕ) (clean repaired : Station) : Type 0 where
   pub book : repaired .book ≡ clean .book
   pub others : (k : ℕ) → (k ≡ c → ⊥) → rowAt repaired k ≡ rowAt clean k
@@ -53,13 +59,13 @@ pub record SameButVerdict (before : Station) (c : ℕ) (clean repaired : Station
   pub start : rowAt repaired c .start ≡ rowAt clean c .start
   pub present : rowAt repaired c .present ≡ rowAt clean c .present
   pub immediate : rowAt repaired c .immediate ≡ rowAt clean c .immediate
-  pub offered : rowAt repaired c .tallies .offered ≡ rowAt clean c .tallies .offered
-  pub refused : rowAt repaired c .tallies .refused ≡ rowAt clean c .tallies .refused
+  pub offered : talliesAt repaired c .offered ≡ talliesAt clean c .offered
+  pub refused : talliesAt repaired c .refused ≡ talliesAt clean c .refused
   -- "It adds to offered and to clean or repaired by the verdict"
-  pub clean-counted : rowAt clean c .tallies .clean ≡ oneMore (rowAt before c .tallies .clean)
-  pub clean-not : rowAt clean c .tallies .repaired ≡ rowAt before c .tallies .repaired
-  pub repaired-counted : rowAt repaired c .tallies .repaired ≡ oneMore (rowAt before c .tallies .repaired)
-  pub repaired-not : rowAt repaired c .tallies .clean ≡ rowAt before c .tallies .clean
+  pub clean-counted : talliesAt clean c .clean ≡ oneMore (talliesAt before c .clean)
+  pub clean-not : talliesAt clean c .repaired ≡ talliesAt before c .repaired
+  pub repaired-counted : talliesAt repaired c .repaired ≡ oneMore (talliesAt before c .repaired)
+  pub repaired-not : talliesAt repaired c .clean ≡ talliesAt before c .clean
 
 -- ---- all of it, whole: proved as `heard-as-sent`
 pub record HeardAsSent (st : Station) (c epoch n : ℕ) : Type 0 where
@@ -72,6 +78,13 @@ pub record HeardAsSent (st : Station) (c epoch n : ℕ) : Type 0 where
   -- and of a station that has its 24 rows it leaves what the string leaves that was sent
   pub left : (i : ℕ) (s t : List ℕ) (q r : Stepped) → length (st .rows) ≡ 24 → Awaits st c epoch n → IsBit i → (i ≡ 8 → ⊥)
       → SentAs n s → OffersTo st c epoch s q → SentAs (flip n i) t → OffersTo st c epoch t r → SameButVerdict st c (q .station) (r .station)
+  -- the tallies that are then told: offered, clean, repaired, refused
+  pub clean-told : (s : List ℕ) (r : Stepped) (t : TalliesFound) → length (st .rows) ≡ 24 → Awaits st c epoch n → SentAs n s → OffersTo st c epoch s r
+      → FindsTallies (r .station) c t
+      → talliesPaper t ≡ 0 ∷ oneMore (talliesAt st c .offered) ∷ oneMore (talliesAt st c .clean) ∷ talliesAt st c .repaired ∷ talliesAt st c .refused ∷ []
+  pub repaired-told : (i : ℕ) (s : List ℕ) (r : Stepped) (t : TalliesFound) → length (st .rows) ≡ 24 → Awaits st c epoch n → IsBit i → (i ≡ 8 → ⊥)
+      → SentAs (flip n i) s → OffersTo st c epoch s r → FindsTallies (r .station) c t
+      → talliesPaper t ≡ 0 ∷ oneMore (talliesAt st c .offered) ∷ talliesAt st c .clean ∷ oneMore (talliesAt st c .repaired) ∷ talliesAt st c .refused ∷ []
   -- "a flip of bit 8 alone is refused", and "every two flips are DAMAGED": whatever the channel holds, at every epoch
   pub bit-8 : (s : List ℕ) (r : Stepped) → c ≤ 23 → SentAs (flip n 8) s → OffersTo st c epoch s r → answerPaper (r .answer) ≡ 3 ∷ []
   pub two-flips : (i j : ℕ) (s : List ℕ) (r : Stepped) → c ≤ 23 → IsBit i → IsBit j → (i ≡ j → ⊥) → SentAs (flip (flip n i) j) s → OffersTo st c epoch s r
@@ -79,7 +92,7 @@ pub record HeardAsSent (st : Station) (c epoch n : ℕ) : Type 0 where
 
 -- ---- such strings there are: the paper's A, on the last channel of a fresh station at epoch 0
 pub record SentWitness : Type 0 where
-  pub A-good : GoodString a
+  pub A-good : SentString a
   pub A-awaited : Awaits freshStation 23 0 a
   pub A-number : mOf a ≡ 1
 
