@@ -3,6 +3,8 @@ pub mod AfterOffer
 pub mod Status
 pub mod QueriesOnce
 pub mod OnceOnly
+pub mod Slots
+pub mod Sent
 pub mod ChannelRuns
 pub mod Holding
 pub mod BookRule

@@ -28,7 +28,7 @@ use Rattle.station.specs.declared.TalliesFound.{TalliesFound}
 use Rattle.station.specs.declared.TalliesFound.the-variants.{Found as FoundTallies, Refused as NoTallies}
 use Rattle.station.specs.declared.HealthFound.{HealthFound}
 use Rattle.station.specs.declared.HealthFound.the-variants.{Found as FoundHealth, Refused as NoHealth}
-use Rattle.station.specs.Station.{rowAt, isNoChannel}
+use Rattle.station.specs.Station.{rowAt, isNoChannel, channelTests}
 
 -- ---- the immediate record: 1, 13
 abbrev pub keptAt : Station → ℕ → Immediate
@@ -80,7 +80,7 @@ talliesPaper (FoundTallies t) = 0 ∷ fourCounts t
 talliesPaper (NoTallies q) = refusalPaper q
 
 unfoldable pub FindsTallies : Station → ℕ → TalliesFound → Type 0
-FindsTallies st c r = talliesPaper r ≡ answerOf (test 1 (isNoChannel c) ∷ []) (fourCounts (rowAt st c .tallies))
+FindsTallies st c r = talliesPaper r ≡ answerOf (channelTests c) (fourCounts (rowAt st c .tallies))
 
 -- ---- health: 1
 -- "the top bit of B": bit 80 of string 2
@@ -115,4 +115,4 @@ healthPaper (FoundHealth h) = 0 ∷ healthNumber h ∷ []
 healthPaper (NoHealth q) = refusalPaper q
 
 unfoldable pub FindsHealth : Station → ℕ → HealthFound → Type 0
-FindsHealth st c r = healthPaper r ≡ answerOf (test 1 (isNoChannel c) ∷ []) (healthNumber (healthBy (keptAt st c) (st .book)) ∷ [])
+FindsHealth st c r = healthPaper r ≡ answerOf (channelTests c) (healthNumber (healthBy (keptAt st c) (st .book)) ∷ [])

@@ -43,6 +43,10 @@ heldAt st c = frameOf (rowAt st c)
 abbrev pub isNoChannel : ℕ → Bool
 isNoChannel c = ltb 23 c
 
+-- the one test of the calls that only need a channel
+abbrev pub channelTests : ℕ → List Test
+channelTests c = test 1 (isNoChannel c) ∷ []
+
 -- ---- an offer: "tested in the order 1 to 9"
 abbrev pub stationTests : Station → ℕ → ℕ → List ℕ → List Test
 stationTests st c epoch s = test 1 (isNoChannel c) ∷ offerTests (heldAt st c) epoch s
@@ -70,5 +74,5 @@ unfoldable pub stationReset : Station → ℕ → Station
 stationReset st c = pick (isNoChannel c) st (record { rows = set (st .rows) c emptyRow; book = st .book })
 
 pub record Resets (st : Station) (c : ℕ) (r : Emptied) : Type 0 where
-  pub answer : writtenPaper (r .answer) ≡ answerOf (test 1 (isNoChannel c) ∷ []) []
+  pub answer : writtenPaper (r .answer) ≡ answerOf (channelTests c) []
   pub station : r .station ≡ stationReset st c

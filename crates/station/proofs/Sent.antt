@@ -1,0 +1,198 @@
+-- A string that is sent is heard as it was sent (heard-as-sent): taken as clean, taken and repaired with one bit wrong, refused with two (the
+-- statements stand in `specs/Sent.antt`).
+-- Assumes nothing.
+use mathlib.Core.Path.{_≡_, refl, sym, ap, ap₂, _∙_}
+use mathlib.Core.Bool.{Bool, true, false, _&&_, _||_}
+use mathlib.Core.List.{List, [], _∷_, _++_}
+use mathlib.Core.Logic.{⊎-elim}
+use Prim.Native.Nat.{ℕ, _-_, _%_, _^_, _≤_, _<_}
+use native.Mathlib.Omega.{arith}
+use borrow.Author.Tests.{eq-eqb, ne-eqb, eqb-true, le-ltb}
+use lib.Dec.{eqb, ltb, leb, lit≤}
+use lib.ListN.{length, set}
+use lib.Seq.{getD-set-same, getD-set-other}
+use Rattle.strings.specs.declared.Verdict.{Verdict}
+use Rattle.strings.specs.declared.Verdict.the-variants.{Clean, Repaired}
+use Rattle.strings.specs.declared.hamming.Ruling.the-variants.{Sound}
+use Rattle.strings.specs.Number.{bitOf, misshapen, flip}
+use Rattle.strings.specs.Hamming.{ruling, isDamaged}
+use Rattle.strings.specs.Numbers.{verdictPaper, firstOf}
+use Rattle.strings.specs.Calls.{isIdle}
+use Rattle.strings.proofs.Digits.{flip-lt, flip-undo}
+use Rattle.strings.proofs.Value.{string-number}
+use Rattle.strings.proofs.Shape.{string-shaped}
+use Rattle.strings.proofs.Judge.{mended-by}
+use Rattle.strings.proofs.Flips.{encoded-ruling, one-flip-ruling, bit-8-ruling, two-flips-ruling}
+use Rattle.relative.specs.Relative.{writeRelative, readRelative, inverse}
+use Rattle.relative.proofs.RelativeCode.{read-written, written-lt, inverse-lt, inverse-alike}
+use Rattle.hearing.specs.Hears.{plainOf, wholeOf}
+use Rattle.book.specs.declared.Book.{Book}
+use Rattle.tallies.specs.Tallies.{afterOffer}
+use Rattle.tallies.specs.Tallies.Outcome.{Taken}
+use Rattle.channel.specs.declared.Row.{Row}
+use Rattle.channel.specs.Row.{holdsFrame, frameOf, counted}
+use Rattle.channel.specs.Offers.{answerPaper, offerTests, takenRow, offeredRow}
+use Rattle.shows.specs.Shows.{showsOf, brought}
+use Rattle.station.specs.declared.Station.{Station}
+use Rattle.station.specs.declared.Stepped.{Stepped}
+use Rattle.station.specs.declared.TalliesFound.{TalliesFound}
+use Rattle.station.specs.Station.{noRow, rowAt, isNoChannel, bookAfter, stationAfter, OffersTo}
+use Rattle.station.specs.Queries.{fourCounts, talliesPaper, FindsTallies}
+use Rattle.station.specs.Sent.{SentString, mOf, SentAs, IsBit, Awaits, talliesAt, SameButVerdict, HeardAsSent}
+
+-- ---- upright or inverted, a string has its shape and is read as it was
+module _ (k : ℕ) (s : List ℕ) (h : k < 2 ^ 84) (e : SentAs k s) where
+  sent-shaped : misshapen s ≡ false
+  sent-shaped =
+      let w = writeRelative k in
+      ⊎-elim (λ p. ap misshapen p ∙ string-shaped w (written-lt k)) (λ p. ap misshapen p ∙ string-shaped (inverse w) (inverse-lt w (written-lt k))) e
+
+  sent-plain : plainOf s ≡ k
+  sent-plain =
+      let w = writeRelative k in
+      ⊎-elim (λ p. ap plainOf p ∙ ap readRelative (string-number w (written-lt k)) ∙ read-written k h)
+      (λ p. ap plainOf p ∙ ap readRelative (string-number (inverse w) (inverse-lt w (written-lt k))) ∙ inverse-alike w (written-lt k) ∙ read-written k h) e
+
+-- ---- what the check says of it
+-- bytes that the check leaves as n with the verdict v
+record LeftAs (s : List ℕ) (n : ℕ) (v : Verdict) : Type 0 where
+  shape : misshapen s ≡ false
+  rules : ruling (plainOf s) ≡ Sound v
+  whole : wholeOf s ≡ n
+
+module _ (n : ℕ) (g : SentString n) where
+  low : n < 2 ^ 84
+  low = omega (arith, g .small, g .idle)
+
+  left-clean : (s : List ℕ) → SentAs n s → LeftAs s n Clean
+  left-clean s e =
+      let p = sent-plain n s low e in
+      let rules = ap ruling p ∙ encoded-ruling n (g .encoded) in
+      record { shape = sent-shaped n s low e; rules = rules; whole = mended-by (plainOf s) Clean rules ∙ p }
+
+  module _ (i : ℕ) (b : IsBit i) where
+    flip-low : flip n i < 2 ^ 84
+    flip-low = flip-lt 84 n i low (b .0) (b .1)
+
+    left-repaired : (s : List ℕ) → (i ≡ 8 → ⊥) → SentAs (flip n i) s → LeftAs s n (Repaired i)
+    left-repaired s ne e =
+        let p = sent-plain (flip n i) s flip-low e in
+        let rules = ap ruling p ∙ one-flip-ruling n i (g .encoded) (b .0) (omega (arith, b .1)) ne in
+        record {
+          shape = sent-shaped (flip n i) s flip-low e;
+          rules = rules;
+          whole = mended-by (plainOf s) (Repaired i) rules ∙ ap (λ (x : ℕ). flip x i) p ∙ flip-undo 84 n i low (b .0) (b .1);
+        }
+
+-- ---- one string is not the four of a record
+not-four : (m : ℕ) → (leb m 4 && ((eqb 1 m || false) && ((eqb 2 m || false) && ((eqb 3 m || false) && (eqb 4 m || false))))) ≡ false
+not-four m = by (leb m 4) (eqb 1 m) (eqb 2 m) refl refl
+  where
+    by : (a b d : Bool) → eqb 1 m ≡ b → eqb 2 m ≡ d → (a && ((b || false) && ((d || false) && ((eqb 3 m || false) && (eqb 4 m || false))))) ≡ false
+    by false b d p q = refl
+    by true false d p q = refl
+    by true true false p q = refl
+    by true true true p q = let x = eqb-true 1 m p in let y = eqb-true 2 m q in absurd (omega arith)
+
+-- ---- the channels 0 to 23 are served
+is-served : (c : ℕ) → c ≤ 23 → isNoChannel c ≡ false
+is-served c l = le-ltb 23 c l
+
+-- ---- DAMAGED, whatever the channel holds
+damaged : (st : Station) (c epoch k : ℕ) (s : List ℕ) (r : Stepped) → c ≤ 23 → k < 2 ^ 84 → isDamaged (ruling k) ≡ true → SentAs k s
+    → OffersTo st c epoch s r → answerPaper (r .answer) ≡ 3 ∷ []
+damaged st c epoch k s r l h d e o = o .answer ∙ rw (is-served c l, sent-shaped k s h e, sent-plain k s h e, d)
+
+-- ---- bytes that the check leaves as n with the verdict v, where their channel awaits that string
+module _ (st : Station) (c epoch n : ℕ) (a : Awaits st c epoch n) (idle : bitOf n 85 ≡ 0) (s : List ℕ) (v : Verdict) (w : LeftAs s n v) where
+  abbrev row : Row
+  row = rowAt st c
+
+  holds-none : holdsFrame (row .present) ≡ false
+  unfolding holdsFrame
+  holds-none = rw (eq-eqb (row .present % 2 ^ 15) 0 (a .no-frame))
+
+  not-idle : isIdle n ≡ false
+  not-idle = rw idle
+
+  not-zero : eqb (mOf n) 0 ≡ false
+  not-zero = ne-eqb (mOf n) 0 (λ z. omega (arith, a .numbered))
+
+  in-time : ltb epoch (mOf n - 1) ≡ false
+  in-time = le-ltb epoch (mOf n - 1) (a .not-early)
+
+  -- taken, and kept
+  taken : (r : Stepped) → OffersTo st c epoch s r → answerPaper (r .answer) ≡ 0 ∷ mOf n ∷ (verdictPaper v ++ (1 ∷ []))
+  taken r o = o .answer ∙ rw (is-served c (a .served), w .shape, w .rules, w .whole, not-idle, not-zero, in-time, holds-none, not-four (mOf n))
+
+  -- the row and the book that it leaves
+  clear : firstOf (offerTests (frameOf row) epoch s) ≡ 0
+  clear = rw (w .shape, w .rules, w .whole, not-idle, not-zero, in-time, holds-none)
+
+  abbrev next : Row
+  next = counted (Taken v) (takenRow row epoch n)
+
+  row-left : offeredRow row epoch s ≡ next
+  row-left = rw (clear, w .rules, w .whole)
+
+  book-left : bookAfter (st .book) row epoch s ≡ brought (st .book) (showsOf (frameOf (takenRow row epoch n)))
+  unfolding counted
+  book-left = rw (clear, w .whole, holds-none)
+
+  module _ (r : Stepped) (o : OffersTo st c epoch s r) where
+    station-left : r .station ≡ record { rows = set (st .rows) c next; book = brought (st .book) (showsOf (frameOf (takenRow row epoch n))) }
+    unfolding stationAfter
+    station-left = o .station ∙ rw (is-served c (a .served)) (ap₂ (λ (x : Row) (b : Book). record { rows = set (st .rows) c x; book = b }) row-left book-left)
+
+    its-row : length (st .rows) ≡ 24 → rowAt (r .station) c ≡ next
+    its-row long = ap (λ (x : Station). rowAt x c) station-left ∙ getD-set-same (st .rows) c next noRow (omega (arith, a .served))
+
+    other-row : (k : ℕ) → (k ≡ c → ⊥) → rowAt (r .station) k ≡ rowAt st k
+    other-row k d = ap (λ (x : Station). rowAt x k) station-left ∙ getD-set-other (st .rows) c k next noRow d
+
+  -- and the tallies that are then told
+  told : (r : Stepped) (t : TalliesFound) → OffersTo st c epoch s r → length (st .rows) ≡ 24 → FindsTallies (r .station) c t
+      → talliesPaper t ≡ 0 ∷ fourCounts (afterOffer (Taken v) (talliesAt st c))
+  unfolding FindsTallies counted takenRow
+  told r t o long f = f ∙ rw (is-served c (a .served)) (ap (λ (z : Row). 0 ∷ fourCounts (z .tallies)) (its-row r o long))
+
+-- ---- the string as it is and with bit i wrong leave one station, but for the verdict's tally
+same-left : (st : Station) (c epoch n : ℕ) → SentString n → (i : ℕ) (s t : List ℕ) (q r : Stepped) → length (st .rows) ≡ 24 → Awaits st c epoch n
+    → IsBit i → (i ≡ 8 → ⊥) → SentAs n s → OffersTo st c epoch s q → SentAs (flip n i) t → OffersTo st c epoch t r
+    → SameButVerdict st c (q .station) (r .station)
+unfolding counted takenRow
+same-left st c epoch n g i s t q r long a b ne e o f p =
+    let w = left-clean n g s e in
+    let v = left-repaired n g i b t ne f in
+    let x = its-row st c epoch n a (g .idle) s Clean w q o long in
+    let y = its-row st c epoch n a (g .idle) t (Repaired i) v r p long in
+    record {
+      book = ap (λ (z : Station). z .book) (station-left st c epoch n a (g .idle) t (Repaired i) v r p)
+          ∙ sym (ap (λ (z : Station). z .book) (station-left st c epoch n a (g .idle) s Clean w q o));
+      others = λ k d. other-row st c epoch n a (g .idle) t (Repaired i) v r p k d ∙ sym (other-row st c epoch n a (g .idle) s Clean w q o k d);
+      strings = ap (λ (z : Row). z .strings) y ∙ sym (ap (λ (z : Row). z .strings) x);
+      start = ap (λ (z : Row). z .start) y ∙ sym (ap (λ (z : Row). z .start) x);
+      present = ap (λ (z : Row). z .present) y ∙ sym (ap (λ (z : Row). z .present) x);
+      immediate = ap (λ (z : Row). z .immediate) y ∙ sym (ap (λ (z : Row). z .immediate) x);
+      offered = ap (λ (z : Row). z .tallies .offered) y ∙ sym (ap (λ (z : Row). z .tallies .offered) x);
+      refused = ap (λ (z : Row). z .tallies .refused) y ∙ sym (ap (λ (z : Row). z .tallies .refused) x);
+      clean-counted = ap (λ (z : Row). z .tallies .clean) x;
+      clean-not = ap (λ (z : Row). z .tallies .repaired) x;
+      repaired-counted = ap (λ (z : Row). z .tallies .repaired) y;
+      repaired-not = ap (λ (z : Row). z .tallies .clean) y;
+    }
+
+-- ---- A STRING IS HEARD AS IT WAS SENT
+pub heard-as-sent : (st : Station) (c epoch n : ℕ) → SentString n → HeardAsSent st c epoch n
+heard-as-sent st c epoch n g =
+    record {
+      clean = λ s r a e o. taken st c epoch n a (g .idle) s Clean (left-clean n g s e) r o;
+      one-flip = λ i s r a b ne e o. taken st c epoch n a (g .idle) s (Repaired i) (left-repaired n g i b s ne e) r o;
+      left = same-left st c epoch n g;
+      clean-told = λ s r t long a e o f. told st c epoch n a (g .idle) s Clean (left-clean n g s e) r t o long f;
+      repaired-told = λ i s r t long a b ne e o f. told st c epoch n a (g .idle) s (Repaired i) (left-repaired n g i b s ne e) r t o long f;
+      bit-8 = λ s r l e o. damaged st c epoch (flip n 8) s r l (flip-low n g 8 (lit≤ tt, lit≤ tt)) (bit-8-ruling n (g .encoded)) e o;
+      two-flips = λ i j s r l b d ne e o.
+          damaged st c epoch (flip (flip n i) j) s r l (flip-lt 84 (flip n i) j (flip-low n g i b) (d .0) (d .1))
+          (two-flips-ruling n i j (g .encoded) (b .0) (omega (arith, b .1)) (d .0) (omega (arith, d .1)) ne) e o;
+    }
