@@ -33,9 +33,9 @@ Matched (t ∷ ts) [] = ⊥
 Matched (t ∷ ts) (q ∷ qs) = ((k : ℕ) × ((t .number ≡ suc k) × (refusalPaper q ≡ suc k ∷ t .place))) × Matched ts qs
 
 -- an answer that such tests give
-record Told (ts : List Test) (told : List ℕ) : Type 0 where
-  answer : Answer
-  is : answerPaper answer ≡ answerOf ts told
+pub record Told (ts : List Test) (told : List ℕ) : Type 0 where
+  pub answer : Answer
+  pub is : answerPaper answer ≡ answerOf ts told
 
 module _ (m : ℕ) (v : Verdict) (w : News) where
   first-told : (n : ℕ) (p : List ℕ) (ts : List Test) (q : Refusal) → ((k : ℕ) × ((n ≡ suc k) × (refusalPaper q ≡ suc k ∷ p))) → Told ts (toldAs m v w)
@@ -50,7 +50,7 @@ module _ (m : ℕ) (v : Verdict) (w : News) where
   told-by (t ∷ ts) (q ∷ qs) a = first-told (t .number) (t .place) ts q (a .0) (told-by ts qs (a .1)) (t .fits)
 
 -- ---- an offer has an answer, and so has a reset
-some-answer : (st : Station) (c epoch : ℕ) (s : List ℕ) → Told (stationTests st c epoch s) (toldIn st c epoch s)
+pub some-answer : (st : Station) (c epoch : ℕ) (s : List ℕ) → Told (stationTests st c epoch s) (toldIn st c epoch s)
 some-answer st c epoch s =
     told-by (numberIn (wholeOf s)) (verdictOf (ruling (plainOf s))) (newsOf (heldAt st c) epoch (wholeOf s)) (stationTests st c epoch s)
     (Channel ∷ Shape ∷ Damaged ∷ Idle ∷ Number ∷ Early ∷ Stale ∷ OffBeat ∷ Conflict ∷ []) (
@@ -79,14 +79,14 @@ some-answer st c epoch s =
       ),
     )
 
-offer-answers : (st : Station) (c epoch : ℕ) (s : List ℕ)
+pub offer-answers : (st : Station) (c epoch : ℕ) (s : List ℕ)
     → OffersTo st c epoch s (record { station = stationAfter st c epoch s; answer = some-answer st c epoch s .answer })
 offer-answers st c epoch s = record { answer = some-answer st c epoch s .is; station = refl }
 
-reset-answer : ℕ → Written
+pub reset-answer : ℕ → Written
 reset-answer c = pick (isNoChannel c) (NotWritten Channel) Done
 
-reset-answers : (st : Station) (c : ℕ) → Resets st c (record { station = stationReset st c; answer = reset-answer c })
+pub reset-answers : (st : Station) (c : ℕ) → Resets st c (record { station = stationReset st c; answer = reset-answer c })
 unfolding reset-answer
 reset-answers st c = record { answer = by (isNoChannel c); station = refl }
   where

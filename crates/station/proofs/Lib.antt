@@ -8,4 +8,7 @@ pub mod Holding
 pub mod BookRule
 pub mod Reorder
 pub mod EveryHistory
+pub mod WellMade
+pub mod Exchange
+pub mod Relock
 pub mod Demands

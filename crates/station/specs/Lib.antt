@@ -1,5 +1,11 @@
 pub mod Station
 pub mod Queries
 pub mod History
+pub mod Said
+pub mod Demand1
+pub mod Demand2
+pub mod Demand3
+pub mod Relock
+pub mod Health
 pub mod Demands
 pub mod Known
