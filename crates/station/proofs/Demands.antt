@@ -31,7 +31,7 @@ use Rattle.channel.proofs.LatestRecord.{record-is}
 use Rattle.station.specs.declared.Station.{Station}
 use Rattle.station.specs.declared.Stepped.{Stepped}
 use Rattle.station.specs.declared.Health.{Health}
-use Rattle.station.specs.Station.{noRow, rowAt, isNoChannel, stationAfter, stationReset, OffersTo}
+use Rattle.station.specs.Station.{freshStation, noRow, rowAt, isNoChannel, stationAfter, stationReset, OffersTo}
 use Rattle.station.specs.History.{Call, callsOn, Runs, fresh, offering, resetting, stationOf}
 use Rattle.station.specs.declared.Health.the-variants.{Unknown, Usable, NotUsable}
 use Rattle.station.specs.Queries.{keptAt, isSlot, isEmpty, topOfB, satelliteOf, statusOf, judged, healthBy}
@@ -42,6 +42,8 @@ use Rattle.station.specs.Health.{KnownIn, UsableIn, HealthIn}
 use Rattle.station.specs.Demands.{AllDemands}
 use Rattle.station.proofs.ChannelRuns.{in-step, served-below, after-none, after-some, reset-none, row-offers}
 use Rattle.station.proofs.EveryHistory.{every-history}
+use Rattle.station.proofs.EveryCall.{station-answers, strings-answer, station-numbers, string-numbers, no-output-byte}
+use Rattle.station.proofs.Gathered.{checking, again, encoding, relative, ranges, round-trips}
 use Rattle.station.proofs.BookRule.{empty-exactly, greatest-there}
 use Rattle.station.proofs.Reorder.{offer-said, reset-said, same-book}
 use Rattle.station.proofs.WellMade.{runs-made}
@@ -224,16 +226,28 @@ runs-is cs st (resetting c ds before r run o) = o .station ∙ ap (λ (x : Stati
 pub demands : AllDemands
 demands =
     record {
+      fresh-answers = record { answer = freshStation; fits = refl; only = λ other q. q };
+      station-answers = station-answers;
+      strings-answer = strings-answer;
+      station-numbers = station-numbers;
+      string-numbers = string-numbers;
       refused = refusal-leaves;
       no-channel = channel-leaves;
-      answers = answered;
+      no-output-byte = no-output-byte;
+      checking = checking;
+      checked-again = again;
+      encoding = encoding;
+      relative = relative;
+      ranges = ranges;
+      round-trips = round-trips;
+      counts = counted;
       every = every-history;
       made = runs-made;
-      counts = counted;
+      answers = answered;
       exchange = λ later earlier x y st differ. exchanged x y differ later earlier st;
-      book = book-rule;
       reordering = reordered;
       two-cards = two-cards;
+      book = book-rule;
       relock = relocked;
       health = health-in;
     }

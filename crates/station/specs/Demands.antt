@@ -1,10 +1,13 @@
--- All that the client demands, whole, in the order of the demands: one record, proved as `demands` in `proofs/Demands.antt`. Its parts are stated in
--- `Demand1`, `Demand2`, `Demand3`, `Relock` and `Health`.
+-- All that the client demands, whole and in the client's order: one record, proved as `demands` in `proofs/Demands.antt`. The words in quotes are the
+-- client's, or the paper's where it says more; what each field says stands in `Demand1`, `Strings`, `Words`, `Demand2`, `Demand3`, `Relock` and
+-- `Health`.
 -- Assumes nothing.
-use Prim.Native.Nat.{ℕ, _≤_}
+use Prim.Native.Nat.{ℕ, _^_, _≤_, _<_}
 use mathlib.Core.Bool.{true, false}
 use mathlib.Core.List.{List, _∷_, _++_}
 use mathlib.Core.Path.{_≡_}
+use lib.ListN.{length}
+use Rattle.strings.specs.Hamming.{Encoded}
 use Rattle.channel.specs.Offers.{isTaken}
 use Rattle.channel.specs.Relock.{Heard, FirstOf15}
 use Rattle.station.specs.declared.Station.{Station}
@@ -13,32 +16,60 @@ use Rattle.station.specs.Station.{freshStation, rowAt, isNoChannel, Offe
 use Rattle.station.specs.Queries.{keptAt, healthBy}
 use Rattle.station.specs.History.{Call, channelOf, Runs, stationOf}
 use Rattle.station.specs.Said.{Said, RunsFrom, callsOf}
-use Rattle.station.specs.Demand1.{WellMade, RefusalLeaves, ChannelLeaves}
+use Rattle.station.specs.Demand1.{OneAnswer, StationAnswers, StringsAnswer, StationNumbers, StringNumbers, WellMade, RefusalLeaves, ChannelLeaves, NoOutputByte}
+use Rattle.station.specs.Strings.{Checking, CheckedAgain, Encoding, Relative}
+use Rattle.station.specs.Words.{RoundTrips, Ranges}
 use Rattle.station.specs.Demand2.{Counted}
 use Rattle.station.specs.Demand3.{Answered, Exchanged, SameCalls, Reordered, SameShown, SameBooks, BookRule}
 use Rattle.station.specs.Relock.{Relocked}
 use Rattle.station.specs.Health.{HealthIn}
 
 pub record AllDemands : Type 0 where
-  -- demand 1
+  -- ==== 1. "Every call answers, for every input and every station it is handed."
+  pub fresh-answers : OneAnswer Station (λ r. r ≡ freshStation)
+  pub station-answers : (st : Station) → StationAnswers st
+  pub strings-answer : StringsAnswer
+  -- "Bad input is refused with the number in our paper;"
+  pub station-numbers : (st : Station) → StationNumbers st
+  pub string-numbers : StringNumbers
+  -- "a refused string changes nothing but its channel's tallies of strings offered and refused,"
   pub refused : (st : Station) (c epoch : ℕ) (s : List ℕ) (r : Stepped) → WellMade st → isNoChannel c ≡ false → OffersTo st c epoch s r
       → isTaken (r .answer) ≡ false → RefusalLeaves st c (r .station)
+  -- "CHANNEL changes nothing at all"
   pub no-channel : (st : Station) (c : ℕ) → isNoChannel c ≡ true → ChannelLeaves st c
-  -- the answers, and that every history has its run
-  pub answers : (cs : List Call) (st : Station) → Runs cs st → Answered cs st
+  -- "and no output byte."
+  pub no-output-byte : NoOutputByte
+  -- ==== 2. "Strings are checked, repaired,"
+  pub checking : (n : ℕ) → n < 2 ^ 85 → Encoded n → (out : List ℕ) → length out ≡ 11 → Checking n out
+  pub checked-again : CheckedAgain
+  pub encoding : (n : ℕ) → n < 2 ^ 85 → Encoding n
+  pub relative : Relative
+  -- "read and written as GLONASS ICD 5.0 says, sign bits and layouts included."
+  pub ranges : Ranges
+  -- "A record written and read back is the same record; a good string read and written again is the same string, its repair made, but that reserved
+  -- bits and minus zeros become plain zeros and the check bits follow."
+  pub round-trips : RoundTrips
+  -- "The four tallies are the true counts since the channel's reset, and stay at 65,535 once there."
+  pub counts : (cs : List Call) (st : Station) → Runs cs st → (c : ℕ) → isNoChannel c ≡ false → Counted cs st c
+  -- ==== 3. "Start with a fresh station and make any calls that offer a string to, or reset, one of channels 0 to 23."
+  -- whatever the calls, there is such a run; the station is well made; and the calls before determine each answer
   pub every : (cs : List Call) → Runs cs (stationOf cs)
   pub made : (cs : List Call) (st : Station) → Runs cs st → WellMade st
-  -- demand 2
-  pub counts : (cs : List Call) (st : Station) → Runs cs st → (c : ℕ) → isNoChannel c ≡ false → Counted cs st c
-  -- demand 3
+  pub answers : (cs : List Call) (st : Station) → Runs cs st → Answered cs st
+  -- "Exchange two neighbouring calls on different channels: each call's answer and the whole station afterwards are unchanged."
   pub exchange : (later earlier : List Said) (x y : Said) (st : Station) → (channelOf (x .call) ≡ channelOf (y .call) → ⊥)
       → RunsFrom freshStation (later ++ (x ∷ y ∷ earlier)) st → Exchanged later earlier x y st
-  pub book : (cs : List Call) (st : Station) → Runs cs st → (slot : ℕ) → 1 ≤ slot → slot ≤ 24 → BookRule cs st slot
+  -- "two cards side by side on one antenna", "although each serves its channels in its own order"
   pub reordering : (all other : List Said) (st st′ : Station) → RunsFrom freshStation all st → RunsFrom freshStation other st′
       → SameCalls (callsOf all) (callsOf other) → Reordered all other st st′
   pub two-cards : (cs ds : List Call) → SameShown cs ds → SameBooks cs ds
-  -- relock and health
+  -- "And at all times an almanac slot holds the greatest entry, by day and then by bits, that any channel has shown since the start, both halves and the
+  -- day coming from one frame of one channel; a slot is empty exactly when none was shown."
+  pub book : (cs : List Call) (st : Station) → Runs cs st → (slot : ℕ) → 1 ≤ slot → slot ≤ 24 → BookRule cs st slot
+  -- ==== the paper: "After a string is taken at epoch e, frames at a steady 15-epoch beat are heard again"
   pub relock : (st : Station) (c : ℕ) (taken : Heard) (r : Stepped) → WellMade st → isNoChannel c ≡ false
       → OffersTo st c (taken .epoch) (taken .bytes) r → isTaken (r .answer) ≡ true
       → (f : ℕ) → FirstOf15 (rowAt (r .station) c .start) f → Relocked c f taken (r .station)
+  -- "Without a record, or without a book entry for its n, a channel's satellite is unknown. Otherwise it is usable if .."
   pub health : (cs : List Call) (st : Station) → Runs cs st → (c : ℕ) → isNoChannel c ≡ false → HealthIn cs c (healthBy (keptAt st c) (st .book))
+  -- ==== sent strings are heard: the field that says so comes here

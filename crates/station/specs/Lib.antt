@@ -3,6 +3,8 @@ pub mod Queries
 pub mod History
 pub mod Said
 pub mod Demand1
+pub mod Strings
+pub mod Words
 pub mod Demand2
 pub mod Demand3
 pub mod Relock
