@@ -28,6 +28,7 @@ use Rattle.channel.specs.History.{recordAfter}
 use Rattle.channel.proofs.HeldFrame.{held-is, refused-only, taken-exactly}
 use Rattle.channel.proofs.TrueCounts.{tallies-are}
 use Rattle.channel.proofs.LatestRecord.{record-is}
+use Rattle.channel.proofs.Relock.{every-phase}
 use Rattle.station.specs.declared.Station.{Station}
 use Rattle.station.specs.declared.Stepped.{Stepped}
 use Rattle.station.specs.declared.Health.{Health}
@@ -35,6 +36,7 @@ use Rattle.station.specs.Station.{freshStation, noRow, rowAt, isNoChanne
 use Rattle.station.specs.History.{Call, callsOn, Runs, fresh, offering, resetting, stationOf}
 use Rattle.station.specs.declared.Health.the-variants.{Unknown, Usable, NotUsable}
 use Rattle.station.specs.Queries.{keptAt, isSlot, isEmpty, topOfB, satelliteOf, statusOf, judged, healthBy}
+use Rattle.station.specs.Said.{callsOf}
 use Rattle.station.specs.Demand1.{WellMade, RefusalLeaves, ChannelLeaves}
 use Rattle.station.specs.Demand2.{Counted}
 use Rattle.station.specs.Demand3.{Answered, SameShown, SameBooks, BookRule}
@@ -47,7 +49,8 @@ use Rattle.station.proofs.Gathered.{checking, again, encoding, relative
 use Rattle.station.proofs.BookRule.{empty-exactly, greatest-there}
 use Rattle.station.proofs.Reorder.{offer-said, reset-said, same-book}
 use Rattle.station.proofs.WellMade.{runs-made}
-use Rattle.station.proofs.Exchange.{exchanged, reordered}
+use Rattle.station.proofs.Exchange.{runs-of, every-run, exchanged, reordered}
+use Rattle.station.proofs.Tallied.{tallied}
 use Rattle.station.proofs.Relock.{relocked}
 
 -- ---- DEMAND 1
@@ -240,14 +243,19 @@ demands =
       relative = relative;
       ranges = ranges;
       round-trips = round-trips;
+      tallies = λ all st run c e. tallied all st run c e (counted (callsOf all) st (runs-of all st run) c e);
       counts = counted;
+      every-run = every-run;
+      said-run = runs-of;
       every = every-history;
+      one-station = runs-is;
       made = runs-made;
       answers = answered;
       exchange = λ later earlier x y st differ. exchanged x y differ later earlier st;
       reordering = reordered;
       two-cards = two-cards;
       book = book-rule;
+      every-beat = λ h phase. let w = every-phase h phase in (w .0, (w .1, w .2));
       relock = relocked;
       health = health-in;
     }

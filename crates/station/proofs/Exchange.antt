@@ -8,13 +8,15 @@ use Prim.Native.Nat.{ℕ}
 use borrow.Author.Tests.{eqb-true}
 use lib.Dec.{eqb}
 use Rattle.strings.specs.Pick.{pick}
+use Rattle.strings.specs.Calls.{writtenPaper}
+use Rattle.channel.specs.Offers.{answerPaper}
 use Rattle.channel.specs.History.{Call as OnChannel}
 use Rattle.station.specs.declared.Station.{Station}
 use Rattle.station.specs.declared.Stepped.{Stepped}
 use Rattle.station.specs.declared.Emptied.{Emptied}
 use Rattle.station.specs.Station.{freshStation, isNoChannel, stationAfter, stationReset}
 use Rattle.station.specs.History.{Call, Offer, Reset, channelOf, itself, callsOn, saidOn, saidAfter, Runs, fresh, offering, resetting, stationOf}
-use Rattle.station.specs.Said.{Said, said, RunsFrom, none, offers, resets, callsOf, answersOn}
+use Rattle.station.specs.Said.{Said, said, RunsFrom, none, offers, resets, callsOf, Ran, answersOn}
 use Rattle.station.specs.Demand3.{Exchanged, SameCalls, Reordered}
 use Rattle.station.proofs.EveryHistory.{some-answer, offer-answers, reset-answer, reset-answers, every-history}
 use Rattle.station.proofs.Reorder.{offer-said, reset-said, said-same, same-later, not-x, not-y, reorder}
@@ -26,11 +28,11 @@ runs-of all st (offers c epoch s before old r run o) = offering c epoch s (calls
 runs-of all st (resets c before old r run o) = resetting c (callsOf before) old r (runs-of before old run) o
 
 -- and each answer is the one that the calls before determine
-abbrev AllTold : List Said → Type 0
+abbrev pub AllTold : List Said → Type 0
 AllTold [] = Unit
 AllTold (x ∷ before) = (x .answer ≡ saidAfter (callsOf before) (x .call)) × AllTold before
 
-all-told : (all : List Said) (st : Station) → RunsFrom freshStation all st → AllTold all
+pub all-told : (all : List Said) (st : Station) → RunsFrom freshStation all st → AllTold all
 all-told all st none = tt
 all-told all st (offers c epoch s before old r run o) = (offer-said (callsOf before) old (runs-of before old run) c epoch s r o, all-told before old run)
 all-told all st (resets c before old r run o) = (reset-said (callsOf before) old c r o, all-told before old run)
@@ -60,6 +62,28 @@ run-of (Reset c ∷ cs) =
     let r : Emptied = record { station = stationReset st c; answer = reset-answer c } in
     subst (λ (a : List ℕ). RunsFrom freshStation (said (Reset c) a ∷ allSaid cs) (stationReset st c))
     (reset-said cs st c r (reset-answers st c)) (resets c (allSaid cs) st r (run-of cs) (reset-answers st c))
+
+-- so has any list of calls from any station
+pub every-run : (from : Station) (cs : List Call) → Ran from cs
+every-run from [] = record { all = []; calls = refl; now = from; run = none }
+every-run from (Offer c epoch s ∷ cs) =
+    let w = every-run from cs in
+    let r : Stepped = record { station = stationAfter (w .now) c epoch s; answer = some-answer (w .now) c epoch s .answer } in
+    record {
+      all = said (Offer c epoch s) (answerPaper (r .answer)) ∷ w .all;
+      calls = ap (λ (l : List Call). Offer c epoch s ∷ l) (w .calls);
+      now = r .station;
+      run = offers c epoch s (w .all) (w .now) r (w .run) (offer-answers (w .now) c epoch s);
+    }
+every-run from (Reset c ∷ cs) =
+    let w = every-run from cs in
+    let r : Emptied = record { station = stationReset (w .now) c; answer = reset-answer c } in
+    record {
+      all = said (Reset c) (writtenPaper (r .answer)) ∷ w .all;
+      calls = ap (λ (l : List Call). Reset c ∷ l) (w .calls);
+      now = r .station;
+      run = resets c (w .all) (w .now) r (w .run) (reset-answers (w .now) c);
+    }
 
 -- ---- two neighbours exchanged
 calls-joined : (later before : List Said) → callsOf (later ++ before) ≡ callsOf later ++ callsOf before

@@ -13,5 +13,6 @@ pub mod EveryCall
 pub mod Gathered
 pub mod WellMade
 pub mod Exchange
+pub mod Tallied
 pub mod Relock
 pub mod Demands

@@ -15,13 +15,13 @@ use Rattle.station.specs.declared.Stepped.{Stepped}
 use Rattle.station.specs.Station.{freshStation, rowAt, isNoChannel, OffersTo}
 use Rattle.station.specs.Queries.{keptAt, healthBy}
 use Rattle.station.specs.History.{Call, channelOf, Runs, stationOf}
-use Rattle.station.specs.Said.{Said, RunsFrom, callsOf}
+use Rattle.station.specs.Said.{Said, RunsFrom, callsOf, Ran}
 use Rattle.station.specs.Demand1.{OneAnswer, StationAnswers, StringsAnswer, StationNumbers, StringNumbers, WellMade, RefusalLeaves, ChannelLeaves, NoOutputByte}
 use Rattle.station.specs.Strings.{Checking, CheckedAgain, Encoding, Relative}
 use Rattle.station.specs.Words.{RoundTrips, Ranges}
-use Rattle.station.specs.Demand2.{Counted}
+use Rattle.station.specs.Demand2.{Tallied, Counted}
 use Rattle.station.specs.Demand3.{Answered, Exchanged, SameCalls, Reordered, SameShown, SameBooks, BookRule}
-use Rattle.station.specs.Relock.{Relocked}
+use Rattle.station.specs.Relock.{EveryBeat, Relocked}
 use Rattle.station.specs.Health.{HealthIn}
 
 pub record AllDemands : Type 0 where
@@ -50,10 +50,15 @@ pub record AllDemands : Type 0 where
   -- bits and minus zeros become plain zeros and the check bits follow."
   pub round-trips : RoundTrips
   -- "The four tallies are the true counts since the channel's reset, and stay at 65,535 once there."
+  pub tallies : (all : List Said) (st : Station) → RunsFrom freshStation all st → (c : ℕ) → isNoChannel c ≡ false → Tallied all st c
   pub counts : (cs : List Call) (st : Station) → Runs cs st → (c : ℕ) → isNoChannel c ≡ false → Counted cs st c
   -- ==== 3. "Start with a fresh station and make any calls that offer a string to, or reset, one of channels 0 to 23."
-  -- whatever the calls, there is such a run; the station is well made; and the calls before determine each answer
+  -- whatever the station and the calls, they can be made; a run with its answers is a run of its calls, which leave one station; it is well made; and
+  -- the calls before determine each answer
+  pub every-run : (st : Station) (cs : List Call) → Ran st cs
+  pub said-run : (all : List Said) (st : Station) → RunsFrom freshStation all st → Runs (callsOf all) st
   pub every : (cs : List Call) → Runs cs (stationOf cs)
+  pub one-station : (cs : List Call) (st : Station) → Runs cs st → st ≡ stationOf cs
   pub made : (cs : List Call) (st : Station) → Runs cs st → WellMade st
   pub answers : (cs : List Call) (st : Station) → Runs cs st → Answered cs st
   -- "Exchange two neighbouring calls on different channels: each call's answer and the whole station afterwards are unchanged."
@@ -67,6 +72,7 @@ pub record AllDemands : Type 0 where
   -- day coming from one frame of one channel; a slot is empty exactly when none was shown."
   pub book : (cs : List Call) (st : Station) → Runs cs st → (slot : ℕ) → 1 ≤ slot → slot ≤ 24 → BookRule cs st slot
   -- ==== the paper: "After a string is taken at epoch e, frames at a steady 15-epoch beat are heard again"
+  pub every-beat : EveryBeat
   pub relock : (st : Station) (c : ℕ) (taken : Heard) (r : Stepped) → WellMade st → isNoChannel c ≡ false
       → OffersTo st c (taken .epoch) (taken .bytes) r → isTaken (r .answer) ≡ true
       → (f : ℕ) → FirstOf15 (rowAt (r .station) c .start) f → Relocked c f taken (r .station)

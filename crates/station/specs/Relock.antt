@@ -1,11 +1,11 @@
 -- Relock on a station (the paper, "Relock"): calls on any channels may come between, and what is supposed and promised of them is read off the
 -- answers that they gave. What a good string and a frame's start are stands in the channel's own words.
 -- Assumes nothing.
-use Prim.Native.Nat.{ℕ, _+_, _≤_}
+use Prim.Native.Nat.{ℕ, _+_, _%_, _≤_}
 use mathlib.Core.List.{List, _∷_, _++_}
 use mathlib.Core.Path.{_≡_}
 use lib.ListN.{getD}
-use Rattle.channel.specs.Relock.{Heard, numberHeard, GoodString, OfStart}
+use Rattle.channel.specs.Relock.{Heard, numberHeard, GoodString, OfStart, FirstOf15}
 use Rattle.station.specs.declared.Station.{Station}
 use Rattle.station.specs.History.{Call, Offer, Reset}
 use Rattle.station.specs.Said.{Said, said, RunsFrom, Among}
@@ -21,6 +21,10 @@ SaysTaken answer = getD answer 0 1 ≡ 0
 -- a good string of the frame that starts at f
 abbrev pub GoodOf : ℕ → Heard → Type 0
 GoodOf f h = GoodString h × OfStart f h
+
+-- "frames at a steady 15-epoch beat": whatever its phase, it has a first start that is 15 or more after the held start h
+abbrev pub EveryBeat : Type 0
+EveryBeat = (h phase : ℕ) → (f : ℕ) × (FirstOf15 h f × (f % 15 ≡ phase % 15))
 
 -- what the paper supposes of the calls made since, toward that frame on channel c
 pub record Steady (c f : ℕ) (since : List Said) : Type 0 where

@@ -34,6 +34,13 @@ pub data RunsFrom (from : Station) : List Said → Station → Type 0 where
 abbrev pub callsOf : List Said → List Call
 callsOf all = map (λ (x : Said). x .call) all
 
+-- calls that were made from a station: their answers, and where they led
+pub record Ran (from : Station) (cs : List Call) : Type 0 where
+  pub all : List Said
+  pub calls : callsOf all ≡ cs
+  pub now : Station
+  pub run : RunsFrom from all now
+
 -- the answers that the calls on one channel gave
 unfoldable pub answersOn : ℕ → List Said → List (List ℕ)
 answersOn c [] = []
