@@ -2,100 +2,56 @@
 -- Assumes nothing.
 use mathlib.Core.Path.{_≡_, refl, sym, ap, ap₂, subst, _∙_}
 use mathlib.Core.Bool.{Bool, true, false, _&&_, not}
-use mathlib.Core.List.{List, [], _∷_, _++_}
+use mathlib.Core.List.{List, [], _∷_}
 use mathlib.Core.Logic.{_⊎_, inl, inr, ⊎-elim, _↔_}
-use Prim.Native.Nat.{ℕ, _+_, _≤_}
+use Prim.Native.Nat.{ℕ, _≤_}
 use native.Mathlib.Omega.{arith}
 use borrow.Author.Tests.{ne-eqb, eqb-true, eqb-false, leb-true}
 use lib.Dec.{eqb, leb}
-use lib.ListN.{length, getD, set, length-set, length-replicate, getD-replicate}
+use lib.ListN.{length, getD}
 use lib.Seq.{getD-set-same, getD-set-other}
 use Rattle.strings.specs.Pick.{pick}
 use Rattle.strings.specs.Number.{wordOf}
 use Rattle.words.specs.Immediate.{stringAt}
-use Rattle.book.specs.declared.Book.{Book}
 use Rattle.book.specs.Entry.{meaning}
 use Rattle.book.specs.Book.{inSlot}
 use Rattle.book.proofs.Good.{both}
 use Rattle.book.proofs.Order.{below-same}
-use Rattle.book.proofs.Joins.{Full, empty-full}
-use Rattle.channel.specs.declared.Row.{Row}
 use Rattle.tallies.specs.declared.Tallies.{Tallies}
 use Rattle.channel.specs.Frame.{isHere}
 use Rattle.immediate.specs.Kept.{hasRecord, recordIn, keptFour}
-use Rattle.channel.specs.Row.{frameOf, emptyRow}
+use Rattle.channel.specs.Row.{frameOf}
 use Rattle.hearing.specs.Hears.{wholeOf}
 use Rattle.channel.specs.Offers.{isTaken, OnlyCounted, offeredRow, storesIt}
 use Rattle.shows.specs.Shows.{showsOf, brought}
 use Rattle.channel.specs.History.{recordAfter}
-use Rattle.channel.specs.Relock.{Heard, FirstOf15, NothingElse, Once, GoodTaken}
-use Rattle.channel.proofs.HeldFrame.{held-is, refused-only, taken-exactly, offered-long}
+use Rattle.channel.proofs.HeldFrame.{held-is, refused-only, taken-exactly}
 use Rattle.channel.proofs.TrueCounts.{tallies-are}
 use Rattle.channel.proofs.LatestRecord.{record-is}
-use Rattle.channel.proofs.Relock.{relock-row}
+use Rattle.channel.proofs.Relock.{every-phase}
 use Rattle.station.specs.declared.Station.{Station}
 use Rattle.station.specs.declared.Stepped.{Stepped}
-use Rattle.station.specs.declared.Emptied.{Emptied}
 use Rattle.station.specs.declared.Health.{Health}
-use Rattle.station.specs.Station.{noRow, rowAt, isNoChannel, stationAfter, stationReset, OffersTo, freshStation, bookAfter, Resets}
-use Rattle.station.specs.History.{Call, channelOf, callsOn, Runs, fresh, offering, resetting, stationOf}
+use Rattle.station.specs.Station.{freshStation, noRow, rowAt, isNoChannel, stationAfter, stationReset, OffersTo}
+use Rattle.station.specs.History.{Call, callsOn, Runs, fresh, offering, resetting, stationOf}
 use Rattle.station.specs.declared.Health.the-variants.{Unknown, Usable, NotUsable}
 use Rattle.station.specs.Queries.{keptAt, isSlot, isEmpty, topOfB, satelliteOf, statusOf, judged, healthBy}
-use Rattle.station.specs.Demands.{AllDemands, WellMade, KnownIn, UsableIn, HealthIn, SameCalls, Reordered, SameShown, SameBooks, RefusalLeaves, ChannelLeaves, Answered, Counted, Exchanged, BookRule, Relocked}
-use Rattle.station.proofs.ChannelRuns.{in-step, served-below, after-none, after-some, reset-none, reset-some, row-offers}
+use Rattle.station.specs.Said.{callsOf}
+use Rattle.station.specs.Demand1.{WellMade, RefusalLeaves, ChannelLeaves}
+use Rattle.station.specs.Demand2.{Counted}
+use Rattle.station.specs.Demand3.{Answered, SameShown, SameBooks, BookRule}
+use Rattle.station.specs.Health.{KnownIn, UsableIn, HealthIn}
+use Rattle.station.specs.Demands.{AllDemands}
+use Rattle.station.proofs.ChannelRuns.{in-step, served-below, after-none, after-some, reset-none, row-offers}
 use Rattle.station.proofs.EveryHistory.{every-history}
-use Rattle.station.proofs.Holding.{brought-full}
+use Rattle.station.proofs.EveryCall.{station-answers, strings-answer, station-numbers, string-numbers, no-output-byte}
+use Rattle.station.proofs.Gathered.{checking, again, encoding, relative, ranges, round-trips}
 use Rattle.station.proofs.BookRule.{empty-exactly, greatest-there}
-use Rattle.station.proofs.Reorder.{offer-said, reset-said, said-same, same-later, not-x, not-y, same-book, reorder}
-
--- ---- A FRESH STATION IS WELL MADE, AND EVERY CALL LEAVES IT SO
-fresh-made : WellMade freshStation
-unfolding freshStation emptyRow
-fresh-made =
-    record {
-      rows = length-replicate 24 emptyRow;
-      strings = λ c e. ap (λ (x : Row). length (x .strings)) (getD-replicate 24 c emptyRow noRow (served-below c e)) ∙ length-replicate {A = ℕ} 165 0;
-      entries = empty-full;
-    }
-
--- one row put back, and a book
-put-made : (st : Station) (c : ℕ) (row : Row) (b : Book) → WellMade st → isNoChannel c ≡ false → length (row .strings) ≡ 165 → Full b
-    → WellMade (record { rows = set (st .rows) c row; book = b })
-put-made st c row b w e l f =
-    record { rows = length-set (st .rows) c row ∙ w .rows; strings = λ k d. by k d (eqb k c) refl; entries = f }
-  where
-    by : (k : ℕ) → isNoChannel k ≡ false → (t : Bool) → eqb k c ≡ t → length (getD (set (st .rows) c row) k noRow .strings) ≡ 165
-    by k d true q =
-        rw (eqb-true k c q) (ap (λ (x : Row). length (x .strings)) (getD-set-same (st .rows) c row noRow (omega (arith, served-below c e, w .rows))) ∙ l)
-    by k d false q = ap (λ (x : Row). length (x .strings)) (getD-set-other (st .rows) c k row noRow (eqb-false k c q)) ∙ w .strings k d
-
-pub offer-made : (st : Station) (c epoch : ℕ) (s : List ℕ) (r : Stepped) → WellMade st → OffersTo st c epoch s r → WellMade (r .station)
-offer-made st c epoch s r w o = by (isNoChannel c) refl
-  where
-    book : (t : Bool) → Full (pick t (brought (st .book) (showsOf (frameOf (offeredRow (rowAt st c) epoch s)))) (st .book))
-    book true = brought-full (showsOf (frameOf (offeredRow (rowAt st c) epoch s))) (st .book) (w .entries)
-    book false = w .entries
-
-    by : (t : Bool) → isNoChannel c ≡ t → WellMade (r .station)
-    by true e = subst WellMade (sym (o .station ∙ after-none st c epoch s e)) w
-    by false e =
-        subst WellMade (sym (o .station ∙ after-some st c epoch s e))
-        (put-made st c (offeredRow (rowAt st c) epoch s) (bookAfter (st .book) (rowAt st c) epoch s) w e (offered-long (rowAt st c) epoch s (w .strings c e))
-        (book (storesIt (frameOf (rowAt st c)) epoch s)))
-
-pub reset-made : (st : Station) (c : ℕ) (r : Emptied) → WellMade st → Resets st c r → WellMade (r .station)
-unfolding emptyRow
-reset-made st c r w o = by (isNoChannel c) refl
-  where
-    by : (t : Bool) → isNoChannel c ≡ t → WellMade (r .station)
-    by true e = subst WellMade (sym (o .station ∙ reset-none st c e)) w
-    by false e = subst WellMade (sym (o .station ∙ reset-some st c e)) (put-made st c emptyRow (st .book) w e (length-replicate {A = ℕ} 165 0) (w .entries))
-
--- so is every station that calls leave
-pub runs-made : (cs : List Call) (st : Station) → Runs cs st → WellMade st
-runs-made cs st fresh = fresh-made
-runs-made cs st (offering c epoch s ds before r run o) = offer-made before c epoch s r (runs-made ds before run) o
-runs-made cs st (resetting c ds before r run o) = reset-made before c r (runs-made ds before run) o
+use Rattle.station.proofs.Reorder.{offer-said, reset-said, same-book}
+use Rattle.station.proofs.WellMade.{runs-made}
+use Rattle.station.proofs.Exchange.{runs-of, every-run, exchanged, reordered}
+use Rattle.station.proofs.Tallied.{tallied}
+use Rattle.station.proofs.Relock.{relocked}
 
 -- ---- DEMAND 1
 pub channel-leaves : (st : Station) (c : ℕ) → isNoChannel c ≡ true → ChannelLeaves st c
@@ -135,41 +91,11 @@ counted cs st run c e =
     }
 
 -- ---- DEMAND 3
-pub exchanged : (later earlier : List Call) (x y : Call) → (channelOf x ≡ channelOf y → ⊥) → Exchanged later earlier x y
-exchanged later earlier x y d =
-    record {
-      answer-x = said-same (y ∷ earlier) earlier x (not-y x y d earlier);
-      answer-y = said-same earlier (x ∷ earlier) y (sym (not-x x y d earlier));
-      answer-later = λ part z. said-same (part ++ (x ∷ y ∷ earlier)) (part ++ (y ∷ x ∷ earlier)) z (same-later x y d part earlier (channelOf z));
-      station = λ st st′ run run′. reorder (later ++ (x ∷ y ∷ earlier)) (later ++ (y ∷ x ∷ earlier)) st st′ run run′ (λ c e. same-later x y d later earlier c);
-    }
-
-pub reordered : (cs ds : List Call) → SameCalls cs ds → Reordered cs ds
-reordered cs ds same =
-    record {
-      station = λ st st′ run run′. reorder cs ds st st′ run run′ same;
-      answer = λ next e. said-same cs ds next (same (channelOf next) e);
-    }
-
 pub two-cards : (cs ds : List Call) → SameShown cs ds → SameBooks cs ds
 two-cards cs ds same st st′ run run′ = same-book cs ds st st′ run run′ (λ k u. same k u .0) (λ k u. same k u .1)
 
 pub book-rule : (cs : List Call) (st : Station) → Runs cs st → (slot : ℕ) → 1 ≤ slot → slot ≤ 24 → BookRule cs st slot
 book-rule cs st run slot least most = record { greatest = greatest-there cs st run slot least most; empty = empty-exactly cs st run slot least most }
-
--- ---- RELOCK
-pub relocked : (st : Station) (channel : ℕ) (c : Heard) (r : Stepped) → WellMade st → isNoChannel channel ≡ false → OffersTo st channel (c .epoch) (c .bytes) r → isTaken (r .answer) ≡ true → Relocked c r channel
-relocked st channel c r made e o t =
-    let row = rowAt st channel in
-    let next = offeredRow row (c .epoch) (c .bytes) in
-    let there : rowAt (r .station) channel ≡ next =
-    ap (λ (x : Station). rowAt x channel) (o .station ∙ after-some st channel (c .epoch) (c .bytes) e)
-    ∙ getD-set-same (st .rows) channel next noRow (omega (arith, served-below channel e, made .rows))
-    in
-    subst
-    (λ (x : Row). (f : ℕ) → FirstOf15 (x .start) f
-    → (f ≤ c .epoch + 29) × ((cs : List Heard) → NothingElse (frameOf x) f cs → Once f cs → GoodTaken (frameOf x) f cs))
-    (sym there) (relock-row row c (record { row = next; answer = r .answer }) (made .strings channel e) (row-offers st channel (c .epoch) (c .bytes) r e o) t)
 
 -- ---- HEALTH
 -- what the judgement says
@@ -303,16 +229,33 @@ runs-is cs st (resetting c ds before r run o) = o .station ∙ ap (λ (x : Stati
 pub demands : AllDemands
 demands =
     record {
+      fresh-answers = record { answer = freshStation; fits = refl; only = λ other q. q };
+      station-answers = station-answers;
+      strings-answer = strings-answer;
+      station-numbers = station-numbers;
+      string-numbers = string-numbers;
       refused = refusal-leaves;
       no-channel = channel-leaves;
-      answers = answered;
-      every = every-history;
-      made = runs-made;
+      no-output-byte = no-output-byte;
+      checking = checking;
+      checked-again = again;
+      encoding = encoding;
+      relative = relative;
+      ranges = ranges;
+      round-trips = round-trips;
+      tallies = λ all st run c e. tallied all st run c e (counted (callsOf all) st (runs-of all st run) c e);
       counts = counted;
-      exchange = exchanged;
-      book = book-rule;
+      every-run = every-run;
+      said-run = runs-of;
+      every = every-history;
+      one-station = runs-is;
+      made = runs-made;
+      answers = answered;
+      exchange = λ later earlier x y st differ. exchanged x y differ later earlier st;
       reordering = reordered;
       two-cards = two-cards;
+      book = book-rule;
+      every-beat = λ h phase. let w = every-phase h phase in (w .0, (w .1, w .2));
       relock = relocked;
       health = health-in;
     }

@@ -4,7 +4,8 @@
 use mathlib.Core.Path.{_≡_, refl}
 use mathlib.Core.Bool.{Bool, true, false}
 use mathlib.Core.List.{List, [], _∷_}
-use Prim.Native.Nat.{ℕ, suc}
+use mathlib.Core.Logic.{⊎-elim}
+use Prim.Native.Nat.{ℕ}
 use Rattle.strings.specs.Pick.{pick}
 use Rattle.strings.specs.declared.Refusal.{Refusal}
 use Rattle.strings.specs.declared.Refusal.the-variants.{Channel, Shape, Damaged, Idle, Number, Early, Stale, OffBeat, Conflict}
@@ -12,7 +13,7 @@ use Rattle.strings.specs.declared.Verdict.{Verdict}
 use Rattle.strings.specs.declared.Written.{Written}
 use Rattle.strings.specs.declared.Written.the-variants.{Done, Refused as NotWritten}
 use Rattle.strings.specs.Hamming.{ruling}
-use Rattle.strings.specs.Numbers.{refusalPaper, Test, test, answerOf}
+use Rattle.strings.specs.Numbers.{Test, test, firstOf, answerOf}
 use Rattle.strings.specs.Calls.{writtenPaper}
 use Rattle.words.specs.Calls.{numberIn}
 use Rattle.channel.specs.declared.News.{News}
@@ -24,33 +25,20 @@ use Rattle.channel.specs.Offers.{answerPaper, toldAs}
 use Rattle.station.specs.declared.Station.{Station}
 use Rattle.station.specs.Station.{heldAt, isNoChannel, stationTests, toldIn, stationAfter, OffersTo, stationReset, Resets}
 use Rattle.station.specs.History.{Call, Offer, Reset, Runs, fresh, offering, resetting, stationOf}
-
--- ---- tests of which each has its refusal
-abbrev Matched : List Test → List Refusal → Type 0
-Matched [] [] = Unit
-Matched [] (q ∷ qs) = ⊥
-Matched (t ∷ ts) [] = ⊥
-Matched (t ∷ ts) (q ∷ qs) = ((k : ℕ) × ((t .number ≡ suc k) × (refusalPaper q ≡ suc k ∷ t .place))) × Matched ts qs
+use Rattle.station.proofs.Refusals.{Matched, Fitting, settles, taken-says}
 
 -- an answer that such tests give
-record Told (ts : List Test) (told : List ℕ) : Type 0 where
-  answer : Answer
-  is : answerPaper answer ≡ answerOf ts told
+pub record Told (ts : List Test) (told : List ℕ) : Type 0 where
+  pub answer : Answer
+  pub is : answerPaper answer ≡ answerOf ts told
 
-module _ (m : ℕ) (v : Verdict) (w : News) where
-  first-told : (n : ℕ) (p : List ℕ) (ts : List Test) (q : Refusal) → ((k : ℕ) × ((n ≡ suc k) × (refusalPaper q ≡ suc k ∷ p))) → Told ts (toldAs m v w)
-      → (b : Bool) → Told (record { number = n; place = p; fits = b } ∷ ts) (toldAs m v w)
-  first-told n p ts q k later true = record { answer = Refused q; is = rw (k .1 .0) (k .1 .1) }
-  first-told n p ts q k later false = record { answer = later .answer; is = later .is }
-
-  told-by : (ts : List Test) (qs : List Refusal) → Matched ts qs → Told ts (toldAs m v w)
-  told-by [] [] a = record { answer = Taken m v w; is = refl }
-  told-by [] (q ∷ qs) a = absurd a
-  told-by (t ∷ ts) [] a = absurd a
-  told-by (t ∷ ts) (q ∷ qs) a = first-told (t .number) (t .place) ts q (a .0) (told-by ts qs (a .1)) (t .fits)
+told-by : (m : ℕ) (v : Verdict) (w : News) (ts : List Test) (qs : List Refusal) → Matched ts qs → Told ts (toldAs m v w)
+told-by m v w ts qs a =
+    ⊎-elim (λ (z : firstOf ts ≡ 0). record { answer = Taken m v w; is = taken-says ts (toldAs m v w) z })
+    (λ (f : Fitting ts). record { answer = Refused (f .refusal); is = f .says (toldAs m v w) }) (settles ts qs a)
 
 -- ---- an offer has an answer, and so has a reset
-some-answer : (st : Station) (c epoch : ℕ) (s : List ℕ) → Told (stationTests st c epoch s) (toldIn st c epoch s)
+pub some-answer : (st : Station) (c epoch : ℕ) (s : List ℕ) → Told (stationTests st c epoch s) (toldIn st c epoch s)
 some-answer st c epoch s =
     told-by (numberIn (wholeOf s)) (verdictOf (ruling (plainOf s))) (newsOf (heldAt st c) epoch (wholeOf s)) (stationTests st c epoch s)
     (Channel ∷ Shape ∷ Damaged ∷ Idle ∷ Number ∷ Early ∷ Stale ∷ OffBeat ∷ Conflict ∷ []) (
@@ -79,14 +67,14 @@ some-answer st c epoch s =
       ),
     )
 
-offer-answers : (st : Station) (c epoch : ℕ) (s : List ℕ)
+pub offer-answers : (st : Station) (c epoch : ℕ) (s : List ℕ)
     → OffersTo st c epoch s (record { station = stationAfter st c epoch s; answer = some-answer st c epoch s .answer })
 offer-answers st c epoch s = record { answer = some-answer st c epoch s .is; station = refl }
 
-reset-answer : ℕ → Written
+pub reset-answer : ℕ → Written
 reset-answer c = pick (isNoChannel c) (NotWritten Channel) Done
 
-reset-answers : (st : Station) (c : ℕ) → Resets st c (record { station = stationReset st c; answer = reset-answer c })
+pub reset-answers : (st : Station) (c : ℕ) → Resets st c (record { station = stationReset st c; answer = reset-answer c })
 unfolding reset-answer
 reset-answers st c = record { answer = by (isNoChannel c); station = refl }
   where

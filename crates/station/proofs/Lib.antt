@@ -9,5 +9,12 @@ pub mod ChannelRuns
 pub mod Holding
 pub mod BookRule
 pub mod Reorder
+pub mod Refusals
 pub mod EveryHistory
+pub mod EveryCall
+pub mod Gathered
+pub mod WellMade
+pub mod Exchange
+pub mod Tallied
+pub mod Relock
 pub mod Demands

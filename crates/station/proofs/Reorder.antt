@@ -27,7 +27,7 @@ use Rattle.station.specs.declared.Stepped.{Stepped}
 use Rattle.station.specs.declared.Emptied.{Emptied}
 use Rattle.station.specs.Station.{noRow, rowAt, isNoChannel, OffersTo, Resets}
 use Rattle.station.specs.History.{Call, Offer, Reset, channelOf, itself, callsOn, saidOn, saidAfter, Part, ShownIn, Runs}
-use Rattle.station.specs.Demands.{SameCalls}
+use Rattle.station.specs.Demand3.{SameCalls}
 use Rattle.station.proofs.ChannelRuns.{in-step, calls-other, own-answer}
 use Rattle.station.proofs.Holding.{held-once}
 use Rattle.station.proofs.BookRule.{slot-holds, book-full}

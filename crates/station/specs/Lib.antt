@@ -4,5 +4,13 @@ pub mod Orders
 pub mod Slots
 pub mod Sent
 pub mod History
+pub mod Said
+pub mod Demand1
+pub mod Strings
+pub mod Words
+pub mod Demand2
+pub mod Demand3
+pub mod Relock
+pub mod Health
 pub mod Demands
 pub mod Known

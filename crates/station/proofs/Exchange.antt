@@ -1,0 +1,160 @@
+-- Runs with the answers that the calls gave, from a fresh station: neighbouring calls on different channels can be exchanged, answers and all
+-- (exchanged), and only each channel's own order counts (reordered).
+-- Assumes nothing.
+use mathlib.Core.Path.{_≡_, refl, sym, ap, ap₂, subst, _∙_}
+use mathlib.Core.Bool.{Bool, true, false}
+use mathlib.Core.List.{List, [], _∷_, _++_}
+use Prim.Native.Nat.{ℕ}
+use borrow.Author.Tests.{eqb-true}
+use lib.Dec.{eqb}
+use Rattle.strings.specs.Pick.{pick}
+use Rattle.strings.specs.Calls.{writtenPaper}
+use Rattle.channel.specs.Offers.{answerPaper}
+use Rattle.channel.specs.History.{Call as OnChannel}
+use Rattle.station.specs.declared.Station.{Station}
+use Rattle.station.specs.declared.Stepped.{Stepped}
+use Rattle.station.specs.declared.Emptied.{Emptied}
+use Rattle.station.specs.Station.{freshStation, isNoChannel, stationAfter, stationReset}
+use Rattle.station.specs.History.{Call, Offer, Reset, channelOf, itself, callsOn, saidOn, saidAfter, Runs, fresh, offering, resetting, stationOf}
+use Rattle.station.specs.Said.{Said, said, RunsFrom, none, offers, resets, callsOf, Ran, answersOn}
+use Rattle.station.specs.Demand3.{Exchanged, SameCalls, Reordered}
+use Rattle.station.proofs.EveryHistory.{some-answer, offer-answers, reset-answer, reset-answers, every-history}
+use Rattle.station.proofs.Reorder.{offer-said, reset-said, said-same, same-later, not-x, not-y, reorder}
+
+-- ---- a run with its answers is a run of its calls
+pub runs-of : (all : List Said) (st : Station) → RunsFrom freshStation all st → Runs (callsOf all) st
+runs-of all st none = fresh
+runs-of all st (offers c epoch s before old r run o) = offering c epoch s (callsOf before) old r (runs-of before old run) o
+runs-of all st (resets c before old r run o) = resetting c (callsOf before) old r (runs-of before old run) o
+
+-- and each answer is the one that the calls before determine
+abbrev pub AllTold : List Said → Type 0
+AllTold [] = Unit
+AllTold (x ∷ before) = (x .answer ≡ saidAfter (callsOf before) (x .call)) × AllTold before
+
+pub all-told : (all : List Said) (st : Station) → RunsFrom freshStation all st → AllTold all
+all-told all st none = tt
+all-told all st (offers c epoch s before old r run o) = (offer-said (callsOf before) old (runs-of before old run) c epoch s r o, all-told before old run)
+all-told all st (resets c before old r run o) = (reset-said (callsOf before) old c r o, all-told before old run)
+
+-- so the calls tell the answers
+unfoldable allSaid : List Call → List Said
+allSaid [] = []
+allSaid (call ∷ cs) = said call (saidAfter cs call) ∷ allSaid cs
+
+said-is : (all : List Said) → AllTold all → all ≡ allSaid (callsOf all)
+unfolding allSaid
+said-is [] t = refl
+said-is (x ∷ before) t = ap₂ (λ (a : List ℕ) (l : List Said). said (x .call) a ∷ l) (t .0) (said-is before (t .1))
+
+-- ---- and every history has a run with its answers
+run-of : (cs : List Call) → RunsFrom freshStation (allSaid cs) (stationOf cs)
+unfolding stationOf allSaid
+run-of [] = none
+run-of (Offer c epoch s ∷ cs) =
+    let st = stationOf cs in
+    let o = offer-answers st c epoch s in
+    let r : Stepped = record { station = stationAfter st c epoch s; answer = some-answer st c epoch s .answer } in
+    subst (λ (a : List ℕ). RunsFrom freshStation (said (Offer c epoch s) a ∷ allSaid cs) (stationAfter st c epoch s))
+    (offer-said cs st (every-history cs) c epoch s r o) (offers c epoch s (allSaid cs) st r (run-of cs) o)
+run-of (Reset c ∷ cs) =
+    let st = stationOf cs in
+    let r : Emptied = record { station = stationReset st c; answer = reset-answer c } in
+    subst (λ (a : List ℕ). RunsFrom freshStation (said (Reset c) a ∷ allSaid cs) (stationReset st c))
+    (reset-said cs st c r (reset-answers st c)) (resets c (allSaid cs) st r (run-of cs) (reset-answers st c))
+
+-- so has any list of calls from any station
+pub every-run : (from : Station) (cs : List Call) → Ran from cs
+every-run from [] = record { all = []; calls = refl; now = from; run = none }
+every-run from (Offer c epoch s ∷ cs) =
+    let w = every-run from cs in
+    let r : Stepped = record { station = stationAfter (w .now) c epoch s; answer = some-answer (w .now) c epoch s .answer } in
+    record {
+      all = said (Offer c epoch s) (answerPaper (r .answer)) ∷ w .all;
+      calls = ap (λ (l : List Call). Offer c epoch s ∷ l) (w .calls);
+      now = r .station;
+      run = offers c epoch s (w .all) (w .now) r (w .run) (offer-answers (w .now) c epoch s);
+    }
+every-run from (Reset c ∷ cs) =
+    let w = every-run from cs in
+    let r : Emptied = record { station = stationReset (w .now) c; answer = reset-answer c } in
+    record {
+      all = said (Reset c) (writtenPaper (r .answer)) ∷ w .all;
+      calls = ap (λ (l : List Call). Reset c ∷ l) (w .calls);
+      now = r .station;
+      run = resets c (w .all) (w .now) r (w .run) (reset-answers (w .now) c);
+    }
+
+-- ---- two neighbours exchanged
+calls-joined : (later before : List Said) → callsOf (later ++ before) ≡ callsOf later ++ callsOf before
+calls-joined [] before = refl
+calls-joined (z ∷ later) before = ap (λ (l : List Call). z .call ∷ l) (calls-joined later before)
+
+module _ (x y : Said) (differ : channelOf (x .call) ≡ channelOf (y .call) → ⊥) where
+  same-on : (later before : List Said) (c : ℕ) → callsOn c (callsOf (later ++ (x ∷ y ∷ before))) ≡ callsOn c (callsOf (later ++ (y ∷ x ∷ before)))
+  same-on later before c =
+      ap (callsOn c) (calls-joined later (x ∷ y ∷ before)) ∙ same-later (x .call) (y .call) differ (callsOf later) (callsOf before) c
+      ∙ sym (ap (callsOn c) (calls-joined later (y ∷ x ∷ before)))
+
+  -- each call keeps its answer
+  told-still : (later before : List Said) → AllTold (later ++ (x ∷ y ∷ before)) → AllTold (later ++ (y ∷ x ∷ before))
+  told-still [] before t =
+      let cs = callsOf before in (
+        t .1 .0 ∙ said-same cs (x .call ∷ cs) (y .call) (sym (not-x (x .call) (y .call) differ cs)),
+        (t .0 ∙ said-same (y .call ∷ cs) cs (x .call) (not-y (x .call) (y .call) differ cs), t .1 .1),
+      )
+  told-still (z ∷ later) before t = (
+    t .0 ∙ said-same (callsOf (later ++ (x ∷ y ∷ before))) (callsOf (later ++ (y ∷ x ∷ before))) (z .call) (same-on later before (channelOf (z .call))),
+    told-still later before (t .1),
+  )
+
+  -- "EACH CALL'S ANSWER AND THE WHOLE STATION AFTERWARDS ARE UNCHANGED"
+  pub exchanged : (later earlier : List Said) (st : Station) → RunsFrom freshStation (later ++ (x ∷ y ∷ earlier)) st → Exchanged later earlier x y st
+  exchanged later earlier st run =
+      let all = later ++ (x ∷ y ∷ earlier) in
+      let turned = later ++ (y ∷ x ∷ earlier) in
+      let told : turned ≡ allSaid (callsOf turned) = said-is turned (told-still later earlier (all-told all st run)) in
+      let same : (cs : List Call) (st′ : Station) → cs ≡ callsOf turned → Runs cs st′ → st ≡ st′ =
+      λ cs st′ q r. reorder (callsOf all) (callsOf turned) st st′ (runs-of all st run) (subst (λ (l : List Call). Runs l st′) q r) (λ c e. same-on later earlier c)
+      in
+      record {
+        unchanged = subst (λ (l : List Said). RunsFrom freshStation l st) (sym told)
+            (subst (RunsFrom freshStation (allSaid (callsOf turned))) (sym (same (callsOf turned) (stationOf (callsOf turned)) refl (every-history (callsOf turned))))
+            (run-of (callsOf turned)));
+        only = λ other st′ r q. (
+          said-is other (all-told other st′ r) ∙ ap allSaid q ∙ sym told,
+          sym (same (callsOf other) st′ q (runs-of other st′ r)),
+        );
+      }
+
+-- ---- any reordering that keeps each channel's order
+-- what a channel's calls are told, by those before on the channel
+saidAll : List OnChannel → List (List ℕ)
+saidAll [] = []
+saidAll (call ∷ l) = saidOn call l ∷ saidAll l
+
+answers-are : (all : List Said) → AllTold all → (c : ℕ) → isNoChannel c ≡ false → answersOn c all ≡ saidAll (callsOn c (callsOf all))
+unfolding saidAll answersOn callsOn saidAfter
+answers-are [] t c e = refl
+answers-are (x ∷ before) t c e = by (eqb (channelOf (x .call)) c) refl (answers-are before (t .1) c e)
+  where
+    cs : List Call
+    cs = callsOf before
+
+    own : channelOf (x .call) ≡ c → x .answer ≡ saidOn (itself (x .call)) (callsOn c cs)
+    own q =
+        t .0 ∙ ap (λ (k : ℕ). pick (isNoChannel k) (1 ∷ []) (saidOn (itself (x .call)) (callsOn k cs))) q
+        ∙ ap (λ (b : Bool). pick b (1 ∷ []) (saidOn (itself (x .call)) (callsOn c cs))) e
+
+    by : (b : Bool) → eqb (channelOf (x .call)) c ≡ b → answersOn c before ≡ saidAll (callsOn c cs)
+        → pick b (x .answer ∷ answersOn c before) (answersOn c before) ≡ saidAll (pick b (itself (x .call) ∷ callsOn c cs) (callsOn c cs))
+    by true q ih = ap₂ (λ (a : List ℕ) (l : List (List ℕ)). a ∷ l) (own (eqb-true (channelOf (x .call)) c q)) ih
+    by false q ih = ih
+
+pub reordered : (all other : List Said) (st st′ : Station) → RunsFrom freshStation all st → RunsFrom freshStation other st′
+    → SameCalls (callsOf all) (callsOf other) → Reordered all other st st′
+reordered all other st st′ run run′ same =
+    record {
+      station = reorder (callsOf all) (callsOf other) st st′ (runs-of all st run) (runs-of other st′ run′) same;
+      answers = λ c e. answers-are all (all-told all st run) c e ∙ ap saidAll (same c e) ∙ sym (answers-are other (all-told other st′ run′) c e);
+    }

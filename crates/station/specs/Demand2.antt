@@ -1,0 +1,57 @@
+-- The client's second demand, as far as it is about a station: "The four tallies are the true counts since the channel's reset, and stay at 65,535 once
+-- there." They are counted from the answers that the calls gave (`Tallied`), and from the calls alone (`Counted`).
+-- Assumes nothing.
+use Prim.Native.Nat.{ℕ, _+_, min}
+use mathlib.Core.Bool.{Bool, not, _&&_}
+use mathlib.Core.List.{List, [], _∷_}
+use mathlib.Core.Path.{_≡_}
+use lib.Dec.{eqb}
+use lib.ListN.{length, getD}
+use Rattle.strings.specs.Pick.{pick}
+use Rattle.tallies.specs.Tallies.{isOffer, isClean, isRepaired, isRefused, limit, howMany}
+use Rattle.immediate.specs.Kept.{recordIn}
+use Rattle.channel.specs.History.{heldAfter, outcomes, recordAfter}
+use Rattle.station.specs.declared.Station.{Station}
+use Rattle.station.specs.Station.{rowAt, heldAt}
+use Rattle.station.specs.Queries.{keptAt}
+use Rattle.station.specs.History.{Call, Offer, Reset, callsOn}
+use Rattle.station.specs.Said.{Said}
+
+-- ---- from the answers
+-- what the offers to a channel since its reset were answered, the latest first
+abbrev pub sinceReset : ℕ → Call → List ℕ → List (List ℕ) → List (List ℕ)
+sinceReset c (Offer k epoch s) answer before = pick (eqb k c) (answer ∷ before) before
+sinceReset c (Reset k) answer before = pick (eqb k c) [] before
+
+unfoldable pub answersSince : ℕ → List Said → List (List ℕ)
+answersSince c [] = []
+answersSince c (x ∷ before) = sinceReset c (x .call) (x .answer) (answersSince c before)
+
+-- an answer is the number that says no; or 0, m, the verdict's case, 0 where it is clean, its bit and the news
+abbrev pub saysNo : List ℕ → Bool
+saysNo answer = not (eqb (getD answer 0 0) 0)
+
+abbrev pub saysClean : List ℕ → Bool
+saysClean answer = not (saysNo answer) && eqb (getD answer 2 0) 0
+
+abbrev pub saysRepaired : List ℕ → Bool
+saysRepaired answer = not (saysNo answer) && not (eqb (getD answer 2 0) 0)
+
+abbrev pub count : (List ℕ → Bool) → List (List ℕ) → ℕ
+count says [] = 0
+count says (answer ∷ before) = pick (says answer) (count says before + 1) (count says before)
+
+pub record Tallied (all : List Said) (st : Station) (c : ℕ) : Type 0 where
+  pub offered : rowAt st c .tallies .offered ≡ min 65535 (length (answersSince c all))
+  pub clean : rowAt st c .tallies .clean ≡ min 65535 (count saysClean (answersSince c all))
+  pub repaired : rowAt st c .tallies .repaired ≡ min 65535 (count saysRepaired (answersSince c all))
+  pub refused : rowAt st c .tallies .refused ≡ min 65535 (count saysNo (answersSince c all))
+
+-- ---- from the calls alone; and the frame and the record of the row
+pub record Counted (cs : List Call) (st : Station) (c : ℕ) : Type 0 where
+  pub frame : heldAt st c ≡ heldAfter (callsOn c cs)
+  pub kept : recordIn (keptAt st c) ≡ recordAfter (callsOn c cs)
+  pub offered : rowAt st c .tallies .offered ≡ min limit (howMany isOffer (outcomes (callsOn c cs)))
+  pub clean : rowAt st c .tallies .clean ≡ min limit (howMany isClean (outcomes (callsOn c cs)))
+  pub repaired : rowAt st c .tallies .repaired ≡ min limit (howMany isRepaired (outcomes (callsOn c cs)))
+  pub refused : rowAt st c .tallies .refused ≡ min limit (howMany isRefused (outcomes (callsOn c cs)))
