@@ -29,7 +29,7 @@ use Rattle.records.specs.declared.named.Record.{Record}
 use Rattle.records.specs.Records.{kindOf, listOf, recordOf}
 use Rattle.words.specs.declared.reading.Reading.{Reading}
 use Rattle.words.specs.declared.reading.Reading.the-variants.{Read, Refused as NotRead}
-use Rattle.words.specs.Layout.{layout, kindNumber}
+use Rattle.layout.specs.Layout.{layout, kindNumber}
 use Rattle.words.specs.Values.{valuesOf, firstBad}
 use Rattle.words.specs.Calls.{numberIn, readTests, readingWords, Reads, writeTests, stringOf, Writes}
 use Rattle.words.proofs.RecordLists.{record-kind, record-values}

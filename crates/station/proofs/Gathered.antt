@@ -17,7 +17,7 @@ use Rattle.relative.proofs.RelativeCode.{written-then-read as sent-then-read, r
 use Rattle.records.specs.declared.kinds.Kind.{Kind}
 use Rattle.records.specs.declared.kinds.Kind.the-variants.{One, Two, Three, Four, Five, Even, Odd, Fourteen}
 use Rattle.records.specs.Records.{kindOf, listOf}
-use Rattle.words.specs.Layout.{layout}
+use Rattle.layout.specs.Layout.{layout}
 use Rattle.words.specs.Values.{valuesOf, firstBad}
 use Rattle.words.specs.Tidied.{tidied}
 use Rattle.words.proofs.Rows.{layout-long}

@@ -24,7 +24,7 @@ use Rattle.records.specs.declared.named.Record.{Record}
 use Rattle.records.specs.Records.{kindOf, listOf}
 use Rattle.words.specs.declared.reading.Reading.{Reading}
 use Rattle.words.specs.declared.reading.Reading.the-variants.{Read, Refused}
-use Rattle.words.specs.Layout.{layout}
+use Rattle.layout.specs.Layout.{layout}
 use Rattle.words.specs.Values.{valuesOf, inRange}
 use Rattle.words.specs.Calls.{Reads, Writes}
 use Rattle.words.specs.Tidied.{wordAt, Tidy}
