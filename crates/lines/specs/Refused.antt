@@ -1,8 +1,8 @@
 -- The lines of strings that are refused by each number from 3 to 9 (the paper, the end of "Known strings and edges": "repaired bit (0 if none or number
 -- 1..4), m (0 for 1..5)"), computed from the definitions: one bit of each string is wrong, of the one by 3 two are.
 -- Assumes nothing.
-use Prim.Native.Nat.{ℕ, _+_, _*_, _^_}
-use mathlib.Core.List.{List, [], _∷_, _++_}
+use Prim.Native.Nat.{ℕ, _+_, _^_}
+use mathlib.Core.List.{List, _∷_, _++_}
 use mathlib.Core.Path.{_≡_, refl}
 use Rattle.strings.specs.Number.{numberOf, paddingOf, misshapen, wordOf, flip, bytesOf, stringBytes}
 use Rattle.strings.specs.Hamming.{position, sumC, sumAll, syndrome, sumsSet, highest, placed, judge, ruling, mended, sumsMade, encode}
