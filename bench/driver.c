@@ -6,12 +6,13 @@
 #include <string.h>
 typedef unsigned char u8;
 typedef unsigned long long usize; /* a slice is a pointer and a length of 64 bits, on the Cortex-M0 too */
-extern u8 measured_relative(const u8 *s, usize n, u8 *out, usize room);
-extern u8 measured_check(const u8 *s, usize n, u8 *out, usize room);
-extern u8 measured_read(const u8 *s, usize n, u8 kind, int *words);
-extern u8 measured_write(u8 m, u8 kind, const int *words, u8 *out, usize room);
+typedef unsigned long long told; /* the numbers of an answer, the first in the lowest byte */
+extern told measured_relative(const u8 *s, usize n, u8 *out, usize room);
+extern told measured_check(const u8 *s, usize n, u8 *out, usize room);
+extern told measured_read(const u8 *s, usize n, u8 kind, int *words);
+extern told measured_write(u8 m, u8 kind, const int *words, u8 *out, usize room);
 extern u8 measured_offers(const u8 *records, usize n);
-extern unsigned long long spineyarrow_offer(void *station, u8 channel, unsigned epoch, const u8 *s, usize n);
+extern told spineyarrow_offer(void *station, u8 channel, unsigned epoch, const u8 *s, usize n);
 
 enum { STRINGS = 75, CHANNELS = 4, RECORD = 16, KINDS = 8 };
 static u8 sent[STRINGS][11], plain[STRINGS][11], wrong1[STRINGS][11], wrong2[STRINGS][11], out[11];
@@ -39,8 +40,8 @@ static void lent(int i) {
     for (k = 0; k < STRINGS * CHANNELS; k++) {
         const u8 *r = records + RECORD * k;
         unsigned epoch = (unsigned)r[1] << 24 | r[2] << 16 | r[3] << 8 | r[4];
-        unsigned long long told = spineyarrow_offer(&station, r[0], epoch, r + 5, 11);
-        said ^= told & 255 ? told & 255 : told >> 8 & 255;
+        told a = spineyarrow_offer(&station, r[0], epoch, r + 5, 11);
+        said ^= a & 255 ? a & 255 : a >> 8 & 255;
     }
     rig_sink = said ^ station.book[0][18];
 }

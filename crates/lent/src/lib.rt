@@ -1,4 +1,5 @@
 // The station lent to a host in C: it lies in the host's memory, and is changed in its place.
 mod offering;
+mod telling;
 
 pub use offering::spineyarrow_offer;

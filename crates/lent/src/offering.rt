@@ -1,12 +1,12 @@
 // An offer to a lent station. The row of its channel is copied out and back, and of the book the
 // entries that rise; the station never.
+use crate::telling::told_in;
 use book::Shown;
 use book::join;
 use book::place_of;
 use book::rises;
 use shows::newly_shown;
 use station::Station;
-use told::told_in;
 ghost use Rattle.book.specs.Book.{InBook};
 ghost use Rattle.lent.specs.Lent.{OffersLent, BringsOne};
 

@@ -37,7 +37,8 @@ fn list_block(st: Station) -> Turn {
     }
 }
 
-// Lists standard input, of any length, into a fresh station. Nothing says that the input ends, so
+// Lists standard input, of any length, into a fresh station. It returns nothing, and a contract cannot
+// speak of what is read and written, so it promises only to end. Nothing says that the input ends, so
 // the blocks are counted down from a number that no run uses up.
 pub fn list_input() {
     let mut st = station::fresh();

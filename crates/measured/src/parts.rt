@@ -1,11 +1,57 @@
-// A string read, checked, its words read and written.
+// A string read, checked, its words read and written. Each answers the numbers of the call that it
+// makes, in one.
 use records::Kind;
-use strings::Checked;
-use strings::Verdict;
-use strings::Written;
+use told::checked_told;
+use told::refusal_told;
+use told::written_told;
 use words::Reading;
+ghost use mathlib.Core.Path.{_≡_};
+ghost use mathlib.Core.List.{[], _∷_};
+ghost use Rattle.told.specs.Told.{packed};
+ghost use Rattle.layout.specs.Layout.{kindNumber};
+ghost use Rattle.measured.specs.Parts.{TellsRelative, TellsCheck, kindBy, TellsRead, TellsWrite};
 
-fn kind_by(n: u8) -> Kind {
+#[no_mangle]
+pub extern "C" fn measured_relative(s: &[u8], out: &mut [u8]) -> u64
+    ensures { λ r. ⌜ TellsRelative (now (s .entry)) (now (out .entry)) r (now (out .exit)) ⌝ }
+{
+    written_told(relative::from_relative(s, out))
+}
+
+#[no_mangle]
+pub extern "C" fn measured_check(s: &[u8], out: &mut [u8]) -> u64
+    ensures { λ r. ⌜ TellsCheck (now (s .entry)) (now (out .entry)) r (now (out .exit)) ⌝ }
+{
+    checked_told(strings::check(s, out))
+}
+
+// Reads the words of a kind, 1 to 8, into eight places.
+#[no_mangle]
+pub extern "C" fn measured_read(s: &[u8], kind: u8, out: &mut [i32; 8]) -> u64
+    ensures { λ r. ⌜ TellsRead (now (s .entry)) kind (now (out .entry)) r (now (out .exit)) ⌝ }
+{
+    let read = words::read_words(s, kind_by(kind));
+    match read {
+        Reading::Refused(why) => refusal_told(why) as u64,
+        Reading::Read(m, r) => {
+            *out = records::list_of(r);
+            read_told(m, number_of(records::kind_of(r)))
+        }
+    }
+}
+
+// Writes the string of m and of the words of a kind.
+#[no_mangle]
+pub extern "C" fn measured_write(m: u8, kind: u8, v: &[i32; 8], out: &mut [u8]) -> u64
+    ensures { λ r. ⌜ TellsWrite m kind (now (v .entry)) (now (out .entry)) r (now (out .exit)) ⌝ }
+{
+    let r = records::record_of(kind_by(kind), *v);
+    written_told(words::write_words(m, r, out))
+}
+
+fn kind_by(n: u8) -> Kind
+    ensures { λ k. ⌜ k ≡ kindBy n ⌝ }
+{
     match n {
         1 => Kind::One,
         2 => Kind::Two,
@@ -18,51 +64,24 @@ fn kind_by(n: u8) -> Kind {
     }
 }
 
-fn written(w: Written) -> u8 {
-    match w {
-        Written::Done => 0,
-        Written::Refused(why) => strings::refusal_number(why),
+fn number_of(k: Kind) -> u8
+    ensures { λ r. ⌜ r ≡ kindNumber k ⌝ }
+{
+    match k {
+        Kind::One => 1,
+        Kind::Two => 2,
+        Kind::Three => 3,
+        Kind::Four => 4,
+        Kind::Five => 5,
+        Kind::Even => 6,
+        Kind::Odd => 7,
+        Kind::Fourteen => 8,
     }
 }
 
-#[no_mangle]
-pub extern "C" fn measured_relative(s: &[u8], out: &mut [u8]) -> u8 {
-    written(relative::from_relative(s, out))
-}
-
-// The repaired bit, or 128 and the refusal's number.
-#[no_mangle]
-pub extern "C" fn measured_check(s: &[u8], out: &mut [u8]) -> u8 {
-    let checked = strings::check(s, out);
-    match checked {
-        Checked::Refused(why) => 128 | strings::refusal_number(why),
-        Checked::Taken(v) => repaired(v),
-    }
-}
-
-fn repaired(v: Verdict) -> u8 {
-    match v {
-        Verdict::Clean => 0,
-        Verdict::Repaired(i) => i,
-    }
-}
-
-// Reads the words of a kind, 1 to 8, into eight places.
-#[no_mangle]
-pub extern "C" fn measured_read(s: &[u8], kind: u8, out: &mut [i32; 8]) -> u8 {
-    let read = words::read_words(s, kind_by(kind));
-    match read {
-        Reading::Refused(why) => 128 | strings::refusal_number(why),
-        Reading::Read(m, r) => {
-            *out = records::list_of(r);
-            m
-        }
-    }
-}
-
-// Writes the string of m and of the words of a kind.
-#[no_mangle]
-pub extern "C" fn measured_write(m: u8, kind: u8, v: &[i32; 8], out: &mut [u8]) -> u8 {
-    let r = records::record_of(kind_by(kind), *v);
-    written(words::write_words(m, r, out))
+// What a reader answers that is not refused: 0, m and the kind.
+fn read_told(m: u8, kind: u8) -> u64
+    ensures { λ r. ⌜ r ≡ packed (0 ∷ m ∷ kind ∷ []) ⌝ }
+{
+    256 * (m as u64) + 65536 * (kind as u64)
 }

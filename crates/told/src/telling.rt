@@ -1,31 +1,37 @@
-// The answer of an offer in one number, for a host in C.
-use channel::Answer;
-use channel::News;
+// Answers in one number, for a host in C: the paper's numbers, the first in the lowest byte.
+use strings::Checked;
 use strings::Refusal;
 use strings::Verdict;
+use strings::Written;
 ghost use mathlib.Core.Path.{_≡_};
 ghost use mathlib.Core.List.{[], _∷_};
 ghost use lib.ListN.{getD};
 ghost use Rattle.strings.specs.Numbers.{refusalPaper, verdictPaper};
-ghost use Rattle.channel.specs.Offers.{answerPaper, newsNumber};
+ghost use Rattle.strings.specs.Calls.{writtenPaper, checkedPaper};
 ghost use Rattle.told.specs.Told.{packed};
 
-// The numbers of an answer in one number: the first in the lowest byte.
-pub fn told_in(a: Answer) -> u64
-    ensures { λ r. ⌜ r ≡ packed (answerPaper a) ⌝ }
+// What became of an output: 0, or the refusal's numbers.
+pub fn written_told(w: Written) -> u64
+    ensures { λ r. ⌜ r ≡ packed (writtenPaper w) ⌝ }
 {
-    match a {
-        Answer::Taken(m, v, news) => {
-            256 * (m as u64)
-                + 65536 * (verdict_told(v) as u64)
-                + 4294967296 * (news_told(news) as u64)
-        }
-        Answer::Refused(why) => refusal_told(why) as u64,
+    match w {
+        Written::Done => 0,
+        Written::Refused(why) => refusal_told(why) as u64,
+    }
+}
+
+// What a check answers: 0 and the verdict's numbers, or the refusal's.
+pub fn checked_told(c: Checked) -> u64
+    ensures { λ r. ⌜ r ≡ packed (checkedPaper c) ⌝ }
+{
+    match c {
+        Checked::Taken(v) => 256 * (verdict_told(v) as u64),
+        Checked::Refused(why) => refusal_told(why) as u64,
     }
 }
 
 // The verdict's case, and the bit that was repaired.
-fn verdict_told(v: Verdict) -> u16
+pub fn verdict_told(v: Verdict) -> u16
     ensures { λ r. ⌜ r ≡ packed (verdictPaper v) ⌝ }
 {
     match v {
@@ -34,19 +40,8 @@ fn verdict_told(v: Verdict) -> u16
     }
 }
 
-fn news_told(news: News) -> u8
-    ensures { λ r. ⌜ r ≡ newsNumber news ⌝ }
-{
-    match news {
-        News::AlreadyHeld => 0,
-        News::Kept => 1,
-        News::RecordBuilt => 2,
-        News::RecordOutOfRange => 3,
-    }
-}
-
 // A refusal's number, and the place that goes with RANGE.
-fn refusal_told(why: Refusal) -> u16
+pub fn refusal_told(why: Refusal) -> u16
     ensures { λ r. ⌜ r ≡ packed (refusalPaper why) ⌝ }
 {
     pair(strings::refusal_number(why), place_in(why))

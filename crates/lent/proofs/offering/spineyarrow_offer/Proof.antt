@@ -95,10 +95,6 @@ use Rattle.station.proofs.AfterOffer.{no-channel, after-offer}
 use Rattle.station.proofs.Station as ST
 use Rattle.station.proofs.Station.Laws as ST′
 use Rattle.told.specs.Told.{packed}
-use Rattle.told.proofs.told_in as told′
-use Rattle.told.proofs.told_in.Symbol as told-def
-use Rattle.told.proofs.told_in.Symbol.{name as #told·told-in}
-use Rattle.told.proofs.told_in.Met as told-thm
 use Rattle.lent.specs.Lent.{OffersLent, BringsOne}
 use Rattle.lent.proofs.Item.{lowly, map-set, item, either-way, lows-set, bytes-is, elem-is, low-is, low-typed, low-item}
 use Rattle.lent.proofs.Parts.{rowsVal, stationVal, rows-of, book-of, made-of}
@@ -108,6 +104,10 @@ use Rattle.lent.proofs.offering.bring_one as one′
 use Rattle.lent.proofs.offering.bring_one.Symbol as one-def
 use Rattle.lent.proofs.offering.bring_one.Symbol.{name as #lent·bring-one}
 use Rattle.lent.proofs.offering.bring_one.Met as one-thm
+use Rattle.lent.proofs.telling.told_in as told′
+use Rattle.lent.proofs.telling.told_in.Symbol as told-def
+use Rattle.lent.proofs.telling.told_in.Symbol.{name as #lent·told-in}
+use Rattle.lent.proofs.telling.told_in.Met as told-thm
 use Rattle.lent.proofs.offering.spineyarrow_offer.Key.{name as #lent·spineyarrow-offer}
 use Rattle.lent.proofs.offering.spineyarrow_offer as lent
 use Rattle.lent.proofs.offering.spineyarrow_offer.Statement as stated
@@ -282,7 +282,7 @@ module _ {M : Type 1} (𝓤 : URA M) (H : Heap 𝓤) (A : Atoms 𝓤) (W : Given
   left-is p vs ih ip =
       made-of (set (h .rows) c (p .row)) (h .book) (length-set (h .rows) c (p .row) ∙ rows-of h _ ih .0, lows-set RW.the-type RW′.lowers (h .rows) c (p .row) (row-is p vs ip) (rows-of h _ ih .1)) (book-of h _ ih)
 
-  module _ (𝓣 : Tables 𝓤 H) (known-offer : Triple 𝓤 (𝓣 .C #channel·offer) (Offer 𝓤 H A at-mem run)) (known-newly : Triple 𝓤 (𝓣 .C #shows·newly-shown) (Newly 𝓤 H A at-mem run)) (known-one : Triple 𝓤 (𝓣 .C #lent·bring-one) (One 𝓤 H A at-mem run)) (known-told : Triple 𝓤 (𝓣 .C #told·told-in) (Told 𝓤 H A at-mem run)) where
+  module _ (𝓣 : Tables 𝓤 H) (known-offer : Triple 𝓤 (𝓣 .C #channel·offer) (Offer 𝓤 H A at-mem run)) (known-newly : Triple 𝓤 (𝓣 .C #shows·newly-shown) (Newly 𝓤 H A at-mem run)) (known-one : Triple 𝓤 (𝓣 .C #lent·bring-one) (One 𝓤 H A at-mem run)) (known-told : Triple 𝓤 (𝓣 .C #lent·told-in) (Told 𝓤 H A at-mem run)) where
     abbrev C : Calls 𝓤 H
     C = 𝓣 .C
 
@@ -454,7 +454,7 @@ module _ {M : Type 1} (𝓤 : URA M) (H : Heap 𝓤) (A : Atoms 𝓤) (W : Given
           forget ! 17 refl $ forget ! 19 refl $ forget ! 21 refl $ forget ! 23 refl $ forget ! 25 refl $ forget ! 27 refl $ forget ! 29 refl $ forget ! 31 refl $ forget ! 39 refl $ forget ! 41 refl $ forget ! 43 refl $ forget ! 45 refl $
           from-loop n p ep (lowly OF.the-type OF′.lowers p _ ip) xs ex ix l₀ l₁ l₂ l₃ l₄ l₅ l₆ l₇ l₈ l₉ l₁₀ l₁₁ l₁₂ l₁₃ l₁₄ l₁₅ l₁₆ l₁₇ l₁₈ l₁₉ l₂₀ l₂₁ l₂₂ l₂₃ (record { j = 0; st = left h c p (h .book); upto = omega arith; so-far = refl }))))))))))))))))))))))))))))))))))
 
-module _ {M : Type 1} (𝓤 : URA M) (H : Heap 𝓤) (A : Atoms 𝓤) (W : Given 𝓤 H A) (mem : Memory → SProp 𝓤) (run : Routine → Fun 𝓤) (𝓣 : Tables 𝓤 H) (known-offer : Triple 𝓤 (𝓣 .C #channel·offer) (Offer 𝓤 H A mem run)) (known-newly : Triple 𝓤 (𝓣 .C #shows·newly-shown) (Newly 𝓤 H A mem run)) (known-one : Triple 𝓤 (𝓣 .C #lent·bring-one) (One 𝓤 H A mem run)) (known-told : Triple 𝓤 (𝓣 .C #told·told-in) (Told 𝓤 H A mem run)) where
+module _ {M : Type 1} (𝓤 : URA M) (H : Heap 𝓤) (A : Atoms 𝓤) (W : Given 𝓤 H A) (mem : Memory → SProp 𝓤) (run : Routine → Fun 𝓤) (𝓣 : Tables 𝓤 H) (known-offer : Triple 𝓤 (𝓣 .C #channel·offer) (Offer 𝓤 H A mem run)) (known-newly : Triple 𝓤 (𝓣 .C #shows·newly-shown) (Newly 𝓤 H A mem run)) (known-one : Triple 𝓤 (𝓣 .C #lent·bring-one) (One 𝓤 H A mem run)) (known-told : Triple 𝓤 (𝓣 .C #lent·told-in) (Told 𝓤 H A mem run)) where
   lent-walks : Walks 𝓤 H A lent.ended stayed (WpFn 𝓤 H (𝓣 .C) (𝓣 .Λ) code.function) (lent.clauses 𝓤 H A mem run)
   lent-walks = walked 𝓤 H A lent.ended stayed (lent.clauses 𝓤 H A mem run) (WpFn 𝓤 H (𝓣 .C) (𝓣 .Λ) code.function) (λ κs. (ptr-vals, (uint-vals w8, (uint-vals w32, (slice-vals, tt))))) (λ κs. (mut-tells (named 0) (κs .0) ST.the-row, (uint-tells w8, (uint-tells w32, (shr-slice-tells (named 1) (κs .1 .0) u8, tt)))))
       (λ κs qs bounds a _ are. via 𝓤 _ (fst∗ 𝓤 _ (emp 𝓤)) (walk 𝓤 H A W mem run (κs .0) (κs .1 .0) (qs .0) (qs .1 .0) (a .0 .ptr .0) (a .0 .ptr .1) (a .0 .name) (a .0 .now) (a .1 .0) (a .1 .1 .0) (a .1 .1 .1 .0) 𝓣 known-offer known-newly known-one known-told (are .1 .0 .1) (are .1 .1 .0 .1) (are .1 .1 .1 .0)))
@@ -473,4 +473,4 @@ spineyarrow-offer-spec 𝓤 H 𝓜 𝓖 𝓡 =
     (cited 𝓤 H (Offer 𝓤 H (𝓖 .A) (𝓜 .mem) (𝓡 .run)) 𝓜 𝓡 code.env #channel·offer offer-def.routine code.calls-channel·offer (offer-thm.met 𝓤 H 𝓜 𝓖 𝓡))
     (cited 𝓤 H (Newly 𝓤 H (𝓖 .A) (𝓜 .mem) (𝓡 .run)) 𝓜 𝓡 code.env #shows·newly-shown newly-def.routine code.calls-shows·newly-shown (newly-thm.met 𝓤 H 𝓜 𝓖 𝓡))
     (cited 𝓤 H (One 𝓤 H (𝓖 .A) (𝓜 .mem) (𝓡 .run)) 𝓜 𝓡 code.env #lent·bring-one one-def.routine code.calls-lent·offering·bring-one (one-thm.met 𝓤 H 𝓜 𝓖 𝓡))
-    (cited 𝓤 H (Told 𝓤 H (𝓖 .A) (𝓜 .mem) (𝓡 .run)) 𝓜 𝓡 code.env #told·told-in told-def.routine code.calls-told·told-in (told-thm.met 𝓤 H 𝓜 𝓖 𝓡)))
+    (cited 𝓤 H (Told 𝓤 H (𝓖 .A) (𝓜 .mem) (𝓡 .run)) 𝓜 𝓡 code.env #lent·told-in told-def.routine code.calls-lent·telling·told-in (told-thm.met 𝓤 H 𝓜 𝓖 𝓡)))

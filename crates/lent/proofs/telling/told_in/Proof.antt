@@ -1,8 +1,8 @@
 -- `telling::told_in` meets its contract: a taken offer's parts at their bytes, or the refusal's. Assumes nothing.
-use Rattle.told.proofs.Packed.{taken-packed}
+use Rattle.lent.proofs.Packed.{taken-packed}
 use borrow.Author.Needs.{needs}
-use Rattle.told.proofs.telling.told_in.Statement.{statement}
-use Rattle.told.proofs.telling.told_in.Tie as tie
+use Rattle.lent.proofs.telling.told_in.Statement.{statement}
+use Rattle.lent.proofs.telling.told_in.Tie as tie
 
 enum-known-a : tie.Need-enum-known-a
 enum-known-a c = search needs

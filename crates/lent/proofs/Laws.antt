@@ -1,0 +1,186 @@
+-- The laws of a lent offer (laws). An offer's answer is that of the first of nine tests that fits (some-answer); and it is read back from the one
+-- number, byte by byte (paper-read).
+-- Assumes nothing.
+use Prim.Native.Nat.{ℕ, zero, suc, _<_, _≤_, _/_, _%_, _*_, _^_}
+use native.Mathlib.Omega.{arith}
+use mathlib.Core.Bool.{Bool, true, false}
+use mathlib.Core.List.{List, [], _∷_}
+use mathlib.Core.Path.{_≡_, refl, sym, ap, subst, _∙_}
+use lib.Dec.{eqb}
+use lib.ListN.{getD, take}
+use Rattle.strings.specs.Pick.{pick}
+use Rattle.strings.specs.declared.Refusal.{Refusal}
+use Rattle.strings.specs.declared.Refusal.the-variants.{Channel, Shape, Damaged, Idle, Number, Early, Stale, OffBeat, Conflict, Range, Place, Room, Nothing, Slot}
+use Rattle.strings.specs.declared.Verdict.{Verdict}
+use Rattle.strings.specs.declared.Verdict.the-variants.{Clean, Repaired}
+use Rattle.strings.specs.declared.hamming.Ruling.{Ruling}
+use Rattle.strings.specs.declared.hamming.Ruling.the-variants.{Sound, Damaged as Bad}
+use Rattle.strings.specs.Number.{misshapen}
+use Rattle.strings.specs.Hamming.{NamesBit, ruling, isDamaged}
+use Rattle.strings.specs.Numbers.{refusalPaper, test, answerOf}
+use Rattle.strings.specs.Calls.{isIdle}
+use Rattle.strings.proofs.Judge.{names-bit}
+use Rattle.words.specs.Calls.{numberIn}
+use Rattle.channel.specs.declared.News.{News}
+use Rattle.channel.specs.declared.News.the-variants.{AlreadyHeld, Kept, RecordBuilt, RecordOutOfRange}
+use Rattle.channel.specs.declared.Answer.{Answer}
+use Rattle.channel.specs.declared.Answer.the-variants.{Taken, Refused}
+use Rattle.channel.specs.Frame.{placeTests, newsOf}
+use Rattle.channel.specs.Offers.{newsNumber, answerPaper, toldAs}
+use Rattle.channel.proofs.Answers.{answer-same}
+use Rattle.channel.proofs.Frames.{number-small}
+use Rattle.hearing.specs.Hears.{plainOf, wholeOf, verdictOf}
+use Rattle.station.specs.declared.Station.{Station}
+use Rattle.station.specs.declared.Stepped.{Stepped}
+use Rattle.station.specs.Station.{heldAt, isNoChannel, stationTests, toldIn, stationAfter, OffersTo}
+use Rattle.station.specs.History.{Call, Offer, Runs, offering}
+use Rattle.told.specs.Told.{packed, AreBytes}
+use Rattle.told.proofs.ReadBack.{read-back}
+use Rattle.lent.specs.Lent.{OffersLent}
+use Rattle.lent.specs.Laws.{AsOffered, ToldAs, Laws}
+
+-- ---- the answer that the tests give, and that its numbers are bytes
+record Told (said : List ℕ) : Type 0 where
+  answer : Answer
+  is : answerPaper answer ≡ said
+  small : AreBytes said
+
+-- ---- bytes, one after another
+none-left : AreBytes []
+none-left zero = omega arith
+none-left (suc k) = omega arith
+
+before : (x : ℕ) (xs : List ℕ) → x < 256 → AreBytes xs → AreBytes (x ∷ xs)
+before x xs l h zero = l
+before x xs l h (suc k) = h k
+
+news-byte : (w : News) → newsNumber w < 256
+news-byte AlreadyHeld = omega arith
+news-byte Kept = omega arith
+news-byte RecordBuilt = omega arith
+news-byte RecordOutOfRange = omega arith
+
+five-bytes : (m k i n : ℕ) → m < 256 → k < 256 → i < 256 → n < 256 → AreBytes (0 ∷ m ∷ k ∷ i ∷ n ∷ [])
+five-bytes m k i n lm lk li ln =
+    before 0 (m ∷ k ∷ i ∷ n ∷ []) (omega arith)
+    (before m (k ∷ i ∷ n ∷ []) lm (before k (i ∷ n ∷ []) lk (before i (n ∷ []) li (before n [] ln none-left))))
+
+taken-bytes : (m : ℕ) (v : Verdict) (w : News) → m ≤ 15 → NamesBit v → AreBytes (0 ∷ toldAs m v w)
+taken-bytes m Clean w l b = five-bytes m 0 0 (newsNumber w) (omega (arith, l)) (omega arith) (omega arith) (news-byte w)
+taken-bytes m (Repaired i) w l b = five-bytes m 1 i (newsNumber w) (omega (arith, l)) (omega arith) (omega (arith, b .1)) (news-byte w)
+
+-- ---- the first of the nine tests that fits
+refused : (q : Refusal) (n : ℕ) → n < 256 → refusalPaper q ≡ n ∷ [] → Told (n ∷ [])
+refused q n l e = record { answer = Refused q; is = e; small = before n [] l none-left }
+
+module _ (m : ℕ) (v : Verdict) (w : News) (l : m ≤ 15) (b : NamesBit v) where
+  first-told : (t₁ t₂ t₃ t₄ t₅ t₆ t₇ t₈ t₉ : Bool)
+      → Told (answerOf (test 1 t₁ ∷ test 2 t₂ ∷ test 3 t₃ ∷ test 4 t₄ ∷ test 5 t₅ ∷ test 6 t₆ ∷ test 7 t₇ ∷ test 8 t₈ ∷ test 9 t₉ ∷ []) (toldAs m v w))
+  first-told true t₂ t₃ t₄ t₅ t₆ t₇ t₈ t₉ = refused Channel 1 (omega arith) refl
+  first-told false true t₃ t₄ t₅ t₆ t₇ t₈ t₉ = refused Shape 2 (omega arith) refl
+  first-told false false true t₄ t₅ t₆ t₇ t₈ t₉ = refused Damaged 3 (omega arith) refl
+  first-told false false false true t₅ t₆ t₇ t₈ t₉ = refused Idle 4 (omega arith) refl
+  first-told false false false false true t₆ t₇ t₈ t₉ = refused Number 5 (omega arith) refl
+  first-told false false false false false true t₇ t₈ t₉ = refused Early 6 (omega arith) refl
+  first-told false false false false false false true t₈ t₉ = refused Stale 7 (omega arith) refl
+  first-told false false false false false false false true t₉ = refused OffBeat 8 (omega arith) refl
+  first-told false false false false false false false false true = refused Conflict 9 (omega arith) refl
+  first-told false false false false false false false false false = record { answer = Taken m v w; is = refl; small = taken-bytes m v w l b }
+
+names-one : (n : ℕ) → NamesBit (verdictOf (ruling n))
+names-one n = by (ruling n) refl
+  where
+    by : (r : Ruling) → ruling n ≡ r → NamesBit (verdictOf r)
+    by (Sound v) e = names-bit n v e
+    by (Bad d) e = tt
+
+some-answer : (st : Station) (c epoch : ℕ) (s : List ℕ) → Told (answerOf (stationTests st c epoch s) (toldIn st c epoch s))
+some-answer st c epoch s =
+    let n = wholeOf s in
+    let x = ruling (plainOf s) in
+    let fit : ℕ → Bool = λ j. getD (placeTests (heldAt st c) epoch n) j (test 0 false) .fits in
+    first-told (numberIn n) (verdictOf x) (newsOf (heldAt st c) epoch n) (number-small n) (names-one (plainOf s))
+    (isNoChannel c) (misshapen s) (isDamaged x) (isIdle n) (fit 0) (fit 1) (fit 2) (fit 3) (fit 4)
+
+-- ---- the offer that a lent one is
+module _ (st : Station) (c epoch : ℕ) (s : List ℕ) where
+  abbrev step : Stepped
+  step = record { station = stationAfter st c epoch s; answer = some-answer st c epoch s .answer }
+
+  offered : OffersTo st c epoch s step
+  offered = record { answer = some-answer st c epoch s .is; station = refl }
+
+  module _ (st′ : Station) (r : ℕ) where
+    to-offer : OffersLent st c epoch s st′ r → AsOffered st c epoch s st′ r
+    to-offer o = record { step = step; offers = offered; answer = o .answer ∙ ap packed (sym (offered .answer)); station = o .station }
+
+    from-offer : AsOffered st c epoch s st′ r → OffersLent st c epoch s st′ r
+    from-offer o = record { answer = o .answer ∙ ap packed (o .offers .answer); station = o .station ∙ o .offers .station }
+
+    runs-on : (cs : List Call) → Runs cs st → OffersLent st c epoch s st′ r → Runs (Offer c epoch s ∷ cs) st′
+    runs-on cs run o = subst (Runs (Offer c epoch s ∷ cs)) (sym (o .station)) (offering c epoch s cs st step run offered)
+
+  bytes : (r : Stepped) → OffersTo st c epoch s r → AreBytes (answerPaper (r .answer))
+  bytes r o = subst AreBytes (sym (o .answer)) (some-answer st c epoch s .small)
+
+-- ---- an answer read back: five numbers after a 0, two where the first is 10, and else the first alone
+abbrev five : List ℕ → List ℕ
+five l = getD l 0 0 ∷ getD l 1 0 ∷ getD l 2 0 ∷ getD l 3 0 ∷ getD l 4 0 ∷ []
+
+abbrev told : List ℕ → List ℕ
+told l = pick (eqb (getD l 0 0) 0) l (pick (eqb (getD l 0 0) 10) (take 2 l) (take 1 l))
+
+refusal-read : (q : Refusal) → told (five (refusalPaper q)) ≡ refusalPaper q
+refusal-read Channel = refl
+refusal-read Shape = refl
+refusal-read Damaged = refl
+refusal-read Idle = refl
+refusal-read Number = refl
+refusal-read Early = refl
+refusal-read Stale = refl
+refusal-read OffBeat = refl
+refusal-read Conflict = refl
+refusal-read (Range place) = refl
+refusal-read Place = refl
+refusal-read Room = refl
+refusal-read Nothing = refl
+refusal-read Slot = refl
+
+paper-read : (a : Answer) → told (five (answerPaper a)) ≡ answerPaper a
+paper-read (Taken m Clean w) = refl
+paper-read (Taken m (Repaired i) w) = refl
+paper-read (Refused q) = refusal-read q
+
+-- the first five bytes of a number
+abbrev byteOf : ℕ → ℕ → ℕ
+byteOf n k = n / 2 ^ (8 * k) % 256
+
+abbrev fiveIn : ℕ → List ℕ
+fiveIn n = byteOf n 0 ∷ byteOf n 1 ∷ byteOf n 2 ∷ byteOf n 3 ∷ byteOf n 4 ∷ []
+
+five-read : (xs : List ℕ) → AreBytes xs → fiveIn (packed xs) ≡ five xs
+five-read xs h = rw (read-back xs h 0, read-back xs h 1, read-back xs h 2, read-back xs h 3, read-back xs h 4)
+
+apart : (a b : Answer) → AreBytes (answerPaper a) → AreBytes (answerPaper b) → packed (answerPaper a) ≡ packed (answerPaper b) → a ≡ b
+apart a b h k e =
+    answer-same a b
+    (sym (paper-read a) ∙ ap told (sym (five-read (answerPaper a) h) ∙ ap fiveIn e ∙ five-read (answerPaper b) k) ∙ paper-read b)
+
+-- ---- the number tells the answer
+module _ {a : Answer} {n : ℕ} (t : ToldAs a n) where
+  told-bytes : AreBytes (answerPaper a)
+  told-bytes = subst (λ (x : Answer). AreBytes (answerPaper x)) (t .answer) (bytes (t .before) (t .channel) (t .epoch) (t .bytes) (t .step) (t .offers))
+
+  told-number : n ≡ packed (answerPaper a)
+  told-number = t .lent .answer ∙ ap packed (sym (t .offers .answer)) ∙ ap (λ (x : Answer). packed (answerPaper x)) (t .answer)
+
+-- ALL OF THEM
+pub laws : Laws
+laws =
+    record {
+      as-offered = λ st c epoch s st′ r. (to-offer st c epoch s st′ r, from-offer st c epoch s st′ r);
+      runs = λ cs st c epoch s st′ r. runs-on st c epoch s st′ r cs;
+      told-once = λ a b n t u. apart a b (told-bytes t) (told-bytes u) (sym (told-number t) ∙ told-number u);
+      in-bytes = bytes;
+      told-apart = apart;
+    }

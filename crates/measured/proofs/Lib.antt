@@ -1,0 +1,3 @@
+pub mod Strings
+pub mod Offered
+pub mod OnceOnly
