@@ -3,13 +3,13 @@
 -- Assumes nothing.
 use Prim.Native.Nat.{ℕ, _+_, _-_, _*_, _/_, _%_, _^_, _≤_, _<_}
 use mathlib.Core.Bool.{false}
-use mathlib.Core.List.{List, [], _∷_, map}
+use mathlib.Core.List.{List, [], _∷_}
 use mathlib.Core.Logic.{_⊎_, _↔_}
 use mathlib.Core.Path.{_≡_, refl}
 use lib.ListN.{length, getD, take, drop, replicate}
 use Rattle.strings.specs.Number.{numberOf, bitOf, wordOf, stringBytes}
 use Rattle.strings.specs.Hamming.{ruling, isDamaged}
-use Rattle.strings.specs.Numbers.{Test}
+use Rattle.strings.specs.Numbers.{numbersOf}
 use Rattle.immediate.specs.Ranges.{InRange}
 use Rattle.hearing.specs.Hears.{plainOf, wholeOf}
 use Rattle.channel.specs.declared.Row.{Row}
@@ -131,5 +131,5 @@ pub record AllLaws : Type 0 where
 
 -- ---- "An offer is tested in the order 1 to 9": here from 2 on
 pub test-order : (f : Frame) (epoch : ℕ) (s : List ℕ)
-    → map (λ (t : Test). t .number) (offerTests f epoch s) ≡ 2 ∷ 3 ∷ 4 ∷ 5 ∷ 6 ∷ 7 ∷ 8 ∷ 9 ∷ []
+    → numbersOf (offerTests f epoch s) ≡ 2 ∷ 3 ∷ 4 ∷ 5 ∷ 6 ∷ 7 ∷ 8 ∷ 9 ∷ []
 test-order f epoch s = refl

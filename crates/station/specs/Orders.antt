@@ -2,15 +2,12 @@
 -- as one table.
 -- Assumes nothing.
 use Prim.Native.Nat.{ℕ}
-use mathlib.Core.List.{List, [], _∷_, map}
+use mathlib.Core.List.{List, [], _∷_}
 use mathlib.Core.Path.{_≡_, refl}
-use Rattle.strings.specs.Numbers.{Test}
+use Rattle.strings.specs.Numbers.{numbersOf}
 use Rattle.station.specs.declared.Station.{Station}
 use Rattle.station.specs.Station.{channelTests, stationTests}
 use Rattle.station.specs.Queries.{recordTests, entryTests}
-
-abbrev pub numbersOf : List Test → List ℕ
-numbersOf ts = map (λ (t : Test). t .number) ts
 
 pub record Orders : Type 0 where
   -- "An offer is tested in the order 1 to 9"
