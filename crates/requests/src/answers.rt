@@ -10,9 +10,12 @@ use strings::Verdict;
 use strings::Written;
 use words::Reading;
 ghost use Prim.Native.Nat.{_≤_};
+ghost use mathlib.Core.Path.{_≡_};
+ghost use lib.ListN.{getD};
+ghost use Rattle.strings.specs.Numbers.{verdictPaper};
 
 // `no N`, for RANGE `no 10 PLACE`.
-pub fn say_no(text: &mut Text, r: Refusal) -> usize
+pub(crate) fn say_no(text: &mut Text, r: Refusal) -> usize
     ensures { λ n. ⌜ n ≤ 512 ⌝ }
 {
     let no = put_text(text, 0, b"no");
@@ -24,7 +27,7 @@ pub fn say_no(text: &mut Text, r: Refusal) -> usize
 }
 
 // `bad OP`.
-pub fn say_bad(text: &mut Text, op: u8) -> usize
+pub(crate) fn say_bad(text: &mut Text, op: u8) -> usize
     ensures { λ n. ⌜ n ≤ 512 ⌝ }
 {
     let bad = put_text(text, 0, b"bad");
@@ -32,7 +35,7 @@ pub fn say_bad(text: &mut Text, op: u8) -> usize
 }
 
 // `short COUNT`.
-pub fn say_short(text: &mut Text, count: usize) -> usize
+pub(crate) fn say_short(text: &mut Text, count: usize) -> usize
     ensures { λ n. ⌜ n ≤ 512 ⌝ }
 {
     let short = put_text(text, 0, b"short");
@@ -40,14 +43,14 @@ pub fn say_short(text: &mut Text, count: usize) -> usize
 }
 
 // `ok`.
-pub fn say_ok(text: &mut Text) -> usize
+pub(crate) fn say_ok(text: &mut Text) -> usize
     ensures { λ n. ⌜ n ≤ 512 ⌝ }
 {
     put_text(text, 0, b"ok")
 }
 
 // `ok HEX`.
-pub fn say_written(text: &mut Text, w: Written, out: &[u8]) -> usize
+pub(crate) fn say_written(text: &mut Text, w: Written, out: &[u8]) -> usize
     ensures { λ n. ⌜ n ≤ 512 ⌝ }
 {
     match w {
@@ -60,7 +63,7 @@ pub fn say_written(text: &mut Text, w: Written, out: &[u8]) -> usize
 }
 
 // `ok BIT HEX`, BIT 0 where the string was clean.
-pub fn say_checked(text: &mut Text, c: Checked, out: &[u8]) -> usize
+pub(crate) fn say_checked(text: &mut Text, c: Checked, out: &[u8]) -> usize
     ensures { λ n. ⌜ n ≤ 512 ⌝ }
 {
     match c {
@@ -74,7 +77,10 @@ pub fn say_checked(text: &mut Text, c: Checked, out: &[u8]) -> usize
     }
 }
 
-pub fn bit_of(v: Verdict) -> u8 {
+// The bit that was repaired, 0 where none was.
+pub(crate) fn bit_of(v: Verdict) -> u8
+    ensures { λ r. ⌜ r ≡ getD (verdictPaper v) 1 0 ⌝ }
+{
     match v {
         Verdict::Clean => 0,
         Verdict::Repaired(i) => i,
@@ -82,7 +88,7 @@ pub fn bit_of(v: Verdict) -> u8 {
 }
 
 // `ok M W1 W2 ..`, as many words as the kind has.
-pub fn say_read(text: &mut Text, r: Reading) -> usize
+pub(crate) fn say_read(text: &mut Text, r: Reading) -> usize
     ensures { λ n. ⌜ n ≤ 512 ⌝ }
 {
     match r {

@@ -8,6 +8,7 @@ mod station_calls;
 mod station_queries;
 mod string_calls;
 mod word_calls;
+mod words_taken;
 mod words_told;
 
 use answers::say_bad;
@@ -58,7 +59,7 @@ fn told(op: u8, payload: &[u8], st: Station, text: &mut Text) -> usize
         1 | 2 | 3 => string_call(op, payload, text),
         4 => read_call(payload, text),
         5 => write_call(payload, text),
-        8 | 9 | 10 | 11 => query_call(op, payload, st, text),
+        8 | 9 | 10 | 11 | 23 => query_call(op, payload, st, text),
         _ => say_bad(text, op),
     }
 }
@@ -127,8 +128,9 @@ fn turn(space: &mut [u8; 65536], st: Station) -> Turned {
     finish(head[0], pair(head[1], head[2]), space, st)
 }
 
-// Answers every request, all by one station that is fresh at the start. Nothing says that the input
-// ends, so the turns are counted down from a number that no run uses up.
+// Answers every request, all by one station that is fresh at the start. It returns nothing and only
+// reads and writes, of which no contract can speak: it promises nothing but to end. Nothing says that
+// the input ends, so the turns are counted down from a number that no run uses up.
 pub fn answer_all() {
     let mut space = io::large_buffer();
     let mut turned = Turned {

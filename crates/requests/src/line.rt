@@ -4,9 +4,9 @@ ghost use Prim.Native.Nat.{_+_, _≤_};
 ghost use lib.ListN.{length};
 
 // Its length is part of its type, so that a bound on a number keeps a place within it.
-pub type Text = [u8; 512];
+pub(crate) type Text = [u8; 512];
 
-pub fn put_text(text: &mut Text, at: usize, s: &[u8]) -> usize
+pub(crate) fn put_text(text: &mut Text, at: usize, s: &[u8]) -> usize
     requires { ⌜ at ≤ 512 ⌝ }
     ensures { λ r. ⌜ r ≤ 512 ⌝ }
 {
@@ -25,7 +25,7 @@ fn copy_to(text: &mut [u8], at: usize, s: &[u8])
 }
 
 // A number in decimal.
-pub fn put_number(text: &mut Text, at: usize, n: u64) -> usize
+fn put_number(text: &mut Text, at: usize, n: u64) -> usize
     requires { ⌜ at ≤ 512 ⌝ }
     ensures { λ r. ⌜ r ≤ 512 ⌝ }
 {
@@ -35,7 +35,7 @@ pub fn put_number(text: &mut Text, at: usize, n: u64) -> usize
 }
 
 // The same behind a space.
-pub fn put_next(text: &mut Text, at: usize, n: u64) -> usize
+pub(crate) fn put_next(text: &mut Text, at: usize, n: u64) -> usize
     requires { ⌜ at ≤ 512 ⌝ }
     ensures { λ r. ⌜ r ≤ 512 ⌝ }
 {
@@ -44,7 +44,7 @@ pub fn put_next(text: &mut Text, at: usize, n: u64) -> usize
 }
 
 // A number that may be negative, in decimal.
-pub fn put_signed(text: &mut Text, at: usize, z: i32) -> usize
+fn put_signed(text: &mut Text, at: usize, z: i32) -> usize
     requires { ⌜ at ≤ 512 ⌝ }
     ensures { λ r. ⌜ r ≤ 512 ⌝ }
 {
@@ -57,7 +57,7 @@ pub fn put_signed(text: &mut Text, at: usize, z: i32) -> usize
 }
 
 // The first of the values, each behind a space.
-pub fn put_values(text: &mut Text, at: usize, v: [i32; 8], count: usize) -> usize
+pub(crate) fn put_values(text: &mut Text, at: usize, v: [i32; 8], count: usize) -> usize
     requires { ⌜ (at ≤ 512) × (count ≤ 8) ⌝ }
     ensures { λ r. ⌜ r ≤ 512 ⌝ }
 {
@@ -70,7 +70,7 @@ pub fn put_values(text: &mut Text, at: usize, v: [i32; 8], count: usize) -> usiz
 }
 
 // Bytes in lower case hexadecimal.
-pub fn put_hex(text: &mut Text, at: usize, s: &[u8]) -> usize
+pub(crate) fn put_hex(text: &mut Text, at: usize, s: &[u8]) -> usize
     requires { ⌜ at ≤ 512 ⌝ }
     ensures { λ r. ⌜ r ≤ 512 ⌝ }
 {
@@ -82,7 +82,7 @@ pub fn put_hex(text: &mut Text, at: usize, s: &[u8]) -> usize
 }
 
 // A byte's two digits.
-pub fn put_pair(text: &mut Text, at: usize, b: u8) -> usize
+pub(crate) fn put_pair(text: &mut Text, at: usize, b: u8) -> usize
     requires { ⌜ at ≤ 512 ⌝ }
     ensures { λ r. ⌜ r ≤ 512 ⌝ }
 {
@@ -90,7 +90,7 @@ pub fn put_pair(text: &mut Text, at: usize, b: u8) -> usize
 }
 
 // A number in lower case hexadecimal, with zeros in front up to a width of at most 16 digits.
-pub fn put_digits(text: &mut Text, at: usize, n: u64, width: usize) -> usize
+pub(crate) fn put_digits(text: &mut Text, at: usize, n: u64, width: usize) -> usize
     requires { ⌜ at ≤ 512 ⌝ }
     ensures { λ r. ⌜ r ≤ 512 ⌝ }
 {

@@ -7,6 +7,7 @@ use crate::line::put_digits;
 use crate::line::put_next;
 use crate::line::put_pair;
 use crate::line::put_text;
+use crate::words_told::put_entry_words;
 use crate::words_told::put_record;
 use book::Entry;
 use channel::Answer;
@@ -23,7 +24,7 @@ use tallies::Tallies;
 ghost use Prim.Native.Nat.{_≤_};
 
 // `taken M BIT NEWS`, BIT 0 where the string was clean.
-pub fn say_offered(text: &mut Text, a: Answer) -> usize
+pub(crate) fn say_offered(text: &mut Text, a: Answer) -> usize
     ensures { λ n. ⌜ n ≤ 512 ⌝ }
 {
     match a {
@@ -47,7 +48,7 @@ fn news_number(news: News) -> u8 {
 }
 
 // `ok`.
-pub fn say_emptied(text: &mut Text, w: Written) -> usize
+pub(crate) fn say_emptied(text: &mut Text, w: Written) -> usize
     ensures { λ n. ⌜ n ≤ 512 ⌝ }
 {
     match w {
@@ -57,7 +58,7 @@ pub fn say_emptied(text: &mut Text, w: Written) -> usize
 }
 
 // `ok` and the 26 words of strings 1 to 4.
-pub fn say_immediate(text: &mut Text, f: RecordFound) -> usize
+pub(crate) fn say_immediate(text: &mut Text, f: RecordFound) -> usize
     ensures { λ n. ⌜ n ≤ 512 ⌝ }
 {
     match f {
@@ -81,7 +82,7 @@ fn put_immediate(text: &mut Text, w: ImmediateWords) -> usize
 }
 
 // `ok DAY EVEN ODD`.
-pub fn say_entry(text: &mut Text, f: EntryFound) -> usize
+pub(crate) fn say_entry(text: &mut Text, f: EntryFound) -> usize
     ensures { λ n. ⌜ n ≤ 512 ⌝ }
 {
     match f {
@@ -109,8 +110,21 @@ fn put_half(text: &mut Text, at: usize, top: u8, rest: u64) -> usize
     put_digits(text, high, rest, 16)
 }
 
+// `ok` and the twelve words of the entry.
+pub(crate) fn say_entry_words(text: &mut Text, f: EntryFound) -> usize
+    ensures { λ n. ⌜ n ≤ 512 ⌝ }
+{
+    match f {
+        EntryFound::Refused(r) => say_no(text, r),
+        EntryFound::Found(e) => {
+            let ok = say_ok(text);
+            put_entry_words(text, ok, e)
+        }
+    }
+}
+
 // `ok OFFERED CLEAN REPAIRED REFUSED`.
-pub fn say_tallies(text: &mut Text, f: TalliesFound) -> usize
+pub(crate) fn say_tallies(text: &mut Text, f: TalliesFound) -> usize
     ensures { λ n. ⌜ n ≤ 512 ⌝ }
 {
     match f {
@@ -130,7 +144,7 @@ fn put_tallies(text: &mut Text, t: Tallies) -> usize
 }
 
 // `ok HEALTH`.
-pub fn say_health(text: &mut Text, f: HealthFound) -> usize
+pub(crate) fn say_health(text: &mut Text, f: HealthFound) -> usize
     ensures { λ n. ⌜ n ≤ 512 ⌝ }
 {
     match f {

@@ -9,9 +9,9 @@ use station::Station;
 ghost use Prim.Native.Nat.{_≤_};
 
 // The station after a request, and how much of the text its line takes.
-pub struct Answered {
-    pub station: Station,
-    pub used: usize,
+pub(crate) struct Answered {
+    pub(crate) station: Station,
+    pub(crate) used: usize,
 }
 
 // A payload of no such length leaves the station as it was.
@@ -25,13 +25,13 @@ fn bad_call(op: u8, st: Station, text: &mut Text) -> Answered
 }
 
 // Request 6: the channel, the epoch in four bytes, then the string.
-pub fn offer_call(payload: &[u8], st: Station, text: &mut Text) -> Answered
+pub(crate) fn offer_call(payload: &[u8], st: Station, text: &mut Text) -> Answered
     ensures { λ r. ⌜ r .used ≤ 512 ⌝ }
 {
     if payload.len() < 5 {
         return bad_call(6, st, text);
     }
-    let epoch = four(payload[1], payload[2], payload[3], payload[4]) as u32;
+    let epoch = four(payload, 1) as u32;
     let stepped = station::offer(st, payload[0], epoch, &payload[5..]);
     let next = stepped.station;
     let answer = stepped.answer;
@@ -42,7 +42,7 @@ pub fn offer_call(payload: &[u8], st: Station, text: &mut Text) -> Answered
 }
 
 // Request 7: the channel.
-pub fn reset_call(payload: &[u8], st: Station, text: &mut Text) -> Answered
+pub(crate) fn reset_call(payload: &[u8], st: Station, text: &mut Text) -> Answered
     ensures { λ r. ⌜ r .used ≤ 512 ⌝ }
 {
     if payload.len() != 1 {
@@ -58,7 +58,7 @@ pub fn reset_call(payload: &[u8], st: Station, text: &mut Text) -> Answered
 }
 
 // Request 12: no payload.
-pub fn fresh_call(payload: &[u8], st: Station, text: &mut Text) -> Answered
+pub(crate) fn fresh_call(payload: &[u8], st: Station, text: &mut Text) -> Answered
     ensures { λ r. ⌜ r .used ≤ 512 ⌝ }
 {
     if payload.len() != 0 {

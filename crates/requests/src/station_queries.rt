@@ -1,15 +1,16 @@
-// Requests 8 to 11: the calls that ask the station.
+// Requests 8 to 11 and 23: the calls that ask the station.
 use crate::answers::say_bad;
 use crate::line::Text;
 use crate::station_answers::say_entry;
+use crate::station_answers::say_entry_words;
 use crate::station_answers::say_health;
 use crate::station_answers::say_immediate;
 use crate::station_answers::say_tallies;
 use station::Station;
 ghost use Prim.Native.Nat.{_≤_};
 
-// The channel, or the slot for request 9.
-pub fn query_call(op: u8, payload: &[u8], st: Station, text: &mut Text) -> usize
+// The channel, or the slot for requests 9 and 23.
+pub(crate) fn query_call(op: u8, payload: &[u8], st: Station, text: &mut Text) -> usize
     ensures { λ n. ⌜ n ≤ 512 ⌝ }
 {
     if payload.len() != 1 {
@@ -26,6 +27,7 @@ fn query(op: u8, which: u8, st: Station, text: &mut Text) -> usize
         9 => say_entry(text, station::entry_of(st, which)),
         10 => say_tallies(text, station::tallies_of(st, which)),
         11 => say_health(text, station::health_of(st, which)),
+        23 => say_entry_words(text, station::entry_of(st, which)),
         _ => say_bad(text, op),
     }
 }

@@ -7,7 +7,7 @@ use crate::numbers::wide;
 ghost use Prim.Native.Nat.{_≤_};
 
 // The output's length in bytes, then the string.
-pub fn string_call(op: u8, payload: &[u8], text: &mut Text) -> usize
+pub(crate) fn string_call(op: u8, payload: &[u8], text: &mut Text) -> usize
     ensures { λ n. ⌜ n ≤ 512 ⌝ }
 {
     if payload.len() == 0 {
