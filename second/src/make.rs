@@ -21,23 +21,34 @@ const RIGHT_ROOM: u8 = BYTES as u8;
 const WRONG_ROOMS: [u8; 8] = [0, 1, 10, 12, 22, 127, 128, 255];
 const WRONG_LENGTHS: [usize; 13] = [0, 1, 2, 8, 9, 10, 12, 13, 16, 22, 255, 256, 300];
 
-/// The same seed always gives the same bytes.
+/// The same seed always gives the same bytes. A part added later comes last, so
+/// that the others stay as they were.
 pub fn trial_input(seed: u64) -> Vec<u8> {
-    made_of(seed, &[strings::add_all, words::add_all, station::add_all])
+    made_of(
+        seed,
+        &[
+            strings::add_all,
+            words::add_all,
+            station::add_all,
+            Input::add_unknown_ops,
+            station::entry_words::add_all,
+        ],
+    )
 }
 
 /// Requests 1 to 5 alone, for a `trial` that has no station.
 pub fn words_input(seed: u64) -> Vec<u8> {
-    made_of(seed, &[strings::add_all, words::add_all])
+    let parts = [strings::add_all, words::add_all, Input::add_unknown_ops];
+    made_of(seed, &parts)
 }
 
-/// The parts one after another; then what no part owns.
+/// The parts one after another; then a request cut short, which can only be the
+/// last.
 fn made_of(seed: u64, parts: &[fn(&mut Input)]) -> Vec<u8> {
     let mut input = Input::new(seed);
     for add_all in parts {
         add_all(&mut input);
     }
-    input.add_unknown_ops();
     input.add_cut_short();
     input.bytes
 }

@@ -18,6 +18,7 @@ pub const ENTRY: u8 = 9;
 pub const TALLIES: u8 = 10;
 pub const HEALTH: u8 = 11;
 pub const FRESH: u8 = 12;
+pub const ENTRY_WORDS: u8 = 23;
 
 #[derive(Clone, Copy, Debug, PartialEq, Eq)]
 pub struct Request<'a> {

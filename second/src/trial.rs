@@ -50,6 +50,7 @@ fn call(station: &mut Station, request: Request) -> Option<Answer> {
         request::TALLIES => station::tallies(station, payload),
         request::HEALTH => station::health(station, payload),
         request::FRESH => station::fresh(station, payload),
+        request::ENTRY_WORDS => station::entry_words(station, payload),
         _ => None,
     }
 }

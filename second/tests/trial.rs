@@ -3,8 +3,8 @@
 use second::known::{received_frame, A, B, B_INVERTED};
 use second::relative::to_relative;
 use second::request::{
-    append, pieces, values_to_bytes, Piece, CHECK, ENTRY, FRESH, FROM_RELATIVE, HEALTH, IMMEDIATE,
-    OFFER, READ, RESET, TALLIES, TO_RELATIVE, WRITE,
+    append, pieces, values_to_bytes, Piece, CHECK, ENTRY, ENTRY_WORDS, FRESH, FROM_RELATIVE,
+    HEALTH, IMMEDIATE, OFFER, READ, RESET, TALLIES, TO_RELATIVE, WRITE,
 };
 use second::{make, trial};
 
@@ -216,6 +216,9 @@ fn queries_of_nothing_and_nowhere() {
         (ENTRY, 1, "no 13\n"),
         (ENTRY, 0, "no 14\n"),
         (ENTRY, 25, "no 14\n"),
+        (ENTRY_WORDS, 1, "no 13\n"),
+        (ENTRY_WORDS, 0, "no 14\n"),
+        (ENTRY_WORDS, 25, "no 14\n"),
         (TALLIES, 24, "no 1\n"),
         (HEALTH, 0, "ok 0\n"),
         (HEALTH, 24, "no 1\n"),
@@ -230,7 +233,7 @@ fn payloads_of_the_station_have_their_lengths() {
         assert_eq!(answer_payload(OFFER, &vec![0; length]), "bad 6\n");
     }
     assert_eq!(answer_payload(OFFER, &[0; 5]), "no 2\n");
-    for op in [RESET, IMMEDIATE, ENTRY, TALLIES, HEALTH] {
+    for op in [RESET, IMMEDIATE, ENTRY, TALLIES, HEALTH, ENTRY_WORDS] {
         for payload in [&[][..], &[1, 0]] {
             assert_eq!(answer_payload(op, payload), format!("bad {op}\n"));
         }
@@ -269,7 +272,7 @@ fn the_made_input_draws_every_kind_of_line() {
     for kind in [
         "ok 0 ", "ok 85 ", "no 1", "no 2", "no 3", "no 4", "no 5", "no 6", "no 7", "no 8", "no 9",
         "no 10 76", "no 11", "no 12", "no 13", "no 14", "taken 1 ", "bad 0", "bad 4", "bad 5",
-        "bad 6", "bad 12", "short 10",
+        "bad 6", "bad 12", "bad 23", "short 10",
     ] {
         assert!(lines.lines().any(|line| line.starts_with(kind)), "{kind}");
     }
@@ -292,6 +295,7 @@ fn the_input_for_words_asks_no_station() {
         .collect();
     assert!((FROM_RELATIVE..=WRITE).all(|op| ops.contains(&op)));
     assert!(!ops.iter().any(|op| (OFFER..=FRESH).contains(op)));
+    assert!(!ops.contains(&ENTRY_WORDS));
 }
 
 #[test]

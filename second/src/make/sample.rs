@@ -39,7 +39,7 @@ pub fn records() -> Vec<Record> {
     story.records
 }
 
-/// The records as offers, then all that the station can be asked of them.
+/// The records as offers, then queries of their channels and of every slot.
 pub(super) fn add_all(input: &mut Input) {
     for record in records() {
         input.offer_record(&record);

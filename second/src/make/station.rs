@@ -1,6 +1,7 @@
 //! Requests to the station.
 
 mod almanac;
+pub(super) mod entry_words;
 mod frames;
 mod health;
 mod record;

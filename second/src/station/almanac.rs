@@ -4,7 +4,7 @@ use std::ops::RangeInclusive;
 
 use super::book::Entry;
 use super::frame::Frame;
-use crate::string::{NavString, DATA};
+use crate::string::NavString;
 use crate::words::kinds::{ALMANAC_DAY, ALMANAC_SLOT, EVEN, FOUR_YEAR_PERIOD, ODD, STRING_5};
 use crate::words::read_words;
 
@@ -17,9 +17,6 @@ const FRAMES_WITH_THE_LAST_PAIR: RangeInclusive<usize> = 1..=4;
 const FIRST_SLOTS: [i64; 5] = [1, 6, 11, 16, 21];
 
 pub const DAYS_IN_FOUR_YEARS: i64 = 1461;
-
-/// Bit 9 of an odd string is l: it "belongs to the sender" and is no part of an entry.
-const DATA_WITHOUT_L: (usize, usize) = (80, 10);
 
 /// All entries with their slots. "An entry is shown when a held frame has both
 /// halves of a pair and string 5, all words of the three in range, and N4 at least 1."
@@ -66,10 +63,5 @@ fn entry(day: i64, even: &NavString, odd: &NavString) -> Option<(usize, Entry)> 
     read_words(&EVEN, even).ok()?;
     read_words(&ODD, odd).ok()?;
     let slot = ALMANAC_SLOT.read(even).ok()? as usize;
-    let entry = Entry {
-        day,
-        even: even.number(DATA),
-        odd: odd.number(DATA_WITHOUT_L),
-    };
-    Some((slot, entry))
+    Some((slot, Entry::of(day, even, odd)))
 }

@@ -1,10 +1,13 @@
 //! The almanac book that all channels share.
 
 use crate::refusal::Refusal;
-use crate::string::DATA;
-use crate::words::kinds::ALMANAC_C;
+use crate::string::{NavString, DATA};
+use crate::words::kinds::{ALMANAC_C, EVEN, L, ODD};
 
 pub const SLOTS: usize = 24;
+
+/// Bit 9 of an odd string is l: it "belongs to the sender" and is no part of an entry.
+const DATA_WITHOUT_L: (usize, usize) = (80, 10);
 
 /// "Two entries for one nA compare by day, then by the even string's bits 80..9 as
 /// a number, then by the odd string's bits 80..10": in the order of the fields.
@@ -16,6 +19,28 @@ pub struct Entry {
 }
 
 impl Entry {
+    /// "An entry is its day and these bits and no more."
+    pub fn of(day: i64, even: &NavString, odd: &NavString) -> Entry {
+        Entry {
+            day,
+            even: even.number(DATA),
+            odd: odd.number(DATA_WITHOUT_L),
+        }
+    }
+
+    /// The seven words of the even half and the five of the odd half, which are all
+    /// but l, in the paper's order.
+    pub fn words(&self) -> Vec<i64> {
+        let (mut even, mut odd) = (NavString::zero(), NavString::zero());
+        even.set_number(DATA, self.even);
+        odd.set_number(DATA_WITHOUT_L, self.odd);
+        let words_of_odd = ODD.words.iter().filter(|&&word| word != L);
+        let words_of_even = EVEN.words.iter().map(|word| word.value_in(&even));
+        words_of_even
+            .chain(words_of_odd.map(|word| word.value_in(&odd)))
+            .collect()
+    }
+
     /// C: the satellite was fit for use when the almanac was uploaded.
     pub fn is_operable(&self) -> bool {
         self.even >> (ALMANAC_C.top_bit() - DATA.1) & 1 == 1

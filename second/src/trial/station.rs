@@ -1,4 +1,4 @@
-//! Requests 6 to 12: the station's calls.
+//! Requests 6 to 12 and 23: the station's calls.
 
 use super::{in_decimal, Answer};
 use crate::station::row::News;
@@ -41,6 +41,12 @@ pub fn immediate(station: &Station, payload: &[u8]) -> Option<Answer> {
 pub fn entry(station: &Station, payload: &[u8]) -> Option<Answer> {
     let answer = station.entry(only_byte(payload)?);
     Some(answer.map(|entry| format!("ok {} {:018x} {:018x}", entry.day, entry.even, entry.odd)))
+}
+
+/// The twelve words of the two halves.
+pub fn entry_words(station: &Station, payload: &[u8]) -> Option<Answer> {
+    let answer = station.entry(only_byte(payload)?);
+    Some(answer.map(|entry| format!("ok {}", in_decimal(&entry.words()))))
 }
 
 pub fn tallies(station: &Station, payload: &[u8]) -> Option<Answer> {

@@ -61,7 +61,7 @@ const fn coordinate(name: &'static str) -> Word {
 }
 
 /// The sender's health flag in strings 5, 7, 9, 11, 13 and 15.
-const L: Word = plain("l", 9, 9);
+pub const L: Word = plain("l", 9, 9);
 
 /// Words that the ranges, the frame rules, the book and the health rule name.
 pub const TK: Word = word("tk", 76, 65, Form::TimeOfDay);

@@ -50,9 +50,14 @@ impl Word {
 
     /// The word's value in a string; RANGE if it is out of range.
     pub fn read(&self, string: &NavString) -> Result<i64, Refusal> {
-        let value = self.meaning(string.number(self.bits) as i64);
+        let value = self.value_in(string);
         self.require_legal(value)?;
         Ok(value)
+    }
+
+    /// The value that the word's bits in a string stand for, legal or not.
+    pub fn value_in(&self, string: &NavString) -> i64 {
+        self.meaning(string.number(self.bits) as i64)
     }
 
     /// Writes a value into a string; RANGE if it is out of range or does not fit.
@@ -74,7 +79,7 @@ impl Word {
     }
 
     /// The bits that stand for a legal value; 0 never gets a minus sign.
-    fn code(&self, value: i64) -> i64 {
+    pub fn code(&self, value: i64) -> i64 {
         match self.form {
             Form::Signed if value < 0 => self.sign_weight() - value,
             Form::Carrier if value < 0 => value + ADDED_TO_NEGATIVE_CARRIER,
