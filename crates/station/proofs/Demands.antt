@@ -46,6 +46,7 @@ use Rattle.station.proofs.ChannelRuns.{in-step, served-below, after-non
 use Rattle.station.proofs.EveryHistory.{every-history}
 use Rattle.station.proofs.EveryCall.{station-answers, strings-answer, station-numbers, string-numbers, no-output-byte}
 use Rattle.station.proofs.Gathered.{checking, again, encoding, relative, ranges, round-trips}
+use Rattle.station.proofs.Sent.{heard-as-sent}
 use Rattle.station.proofs.BookRule.{empty-exactly, greatest-there}
 use Rattle.station.proofs.Reorder.{offer-said, reset-said, same-book}
 use Rattle.station.proofs.WellMade.{runs-made}
@@ -241,6 +242,7 @@ demands =
       checked-again = again;
       encoding = encoding;
       relative = relative;
+      sent = heard-as-sent;
       ranges = ranges;
       round-trips = round-trips;
       tallies = λ all st run c e. tallied all st run c e (counted (callsOf all) st (runs-of all st run) c e);

@@ -65,24 +65,24 @@ run-of (Reset c ∷ cs) =
 
 -- so has any list of calls from any station
 pub every-run : (from : Station) (cs : List Call) → Ran from cs
-every-run from [] = record { all = []; calls = refl; now = from; run = none }
+every-run from [] = record { all = []; calls = refl; left = from; run = none }
 every-run from (Offer c epoch s ∷ cs) =
     let w = every-run from cs in
-    let r : Stepped = record { station = stationAfter (w .now) c epoch s; answer = some-answer (w .now) c epoch s .answer } in
+    let r : Stepped = record { station = stationAfter (w .left) c epoch s; answer = some-answer (w .left) c epoch s .answer } in
     record {
       all = said (Offer c epoch s) (answerPaper (r .answer)) ∷ w .all;
       calls = ap (λ (l : List Call). Offer c epoch s ∷ l) (w .calls);
-      now = r .station;
-      run = offers c epoch s (w .all) (w .now) r (w .run) (offer-answers (w .now) c epoch s);
+      left = r .station;
+      run = offers c epoch s (w .all) (w .left) r (w .run) (offer-answers (w .left) c epoch s);
     }
 every-run from (Reset c ∷ cs) =
     let w = every-run from cs in
-    let r : Emptied = record { station = stationReset (w .now) c; answer = reset-answer c } in
+    let r : Emptied = record { station = stationReset (w .left) c; answer = reset-answer c } in
     record {
       all = said (Reset c) (writtenPaper (r .answer)) ∷ w .all;
       calls = ap (λ (l : List Call). Reset c ∷ l) (w .calls);
-      now = r .station;
-      run = resets c (w .all) (w .now) r (w .run) (reset-answers (w .now) c);
+      left = r .station;
+      run = resets c (w .all) (w .left) r (w .run) (reset-answers (w .left) c);
     }
 
 -- ---- two neighbours exchanged

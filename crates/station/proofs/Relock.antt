@@ -128,15 +128,15 @@ steady-before c f x before w =
 -- ---- from any station that is well made, on a channel
 module _ (st : Station) (c f : ℕ) (served : isNoChannel c ≡ false) where
   -- what is known after calls of which these strings were offered to the channel
-  record Since (hs : List Heard) (now : Station) : Type 0 where
-    made : WellMade now
-    held : heldAt now c ≡ heardAfter (heldAt st c) hs
+  record Since (hs : List Heard) (st′ : Station) : Type 0 where
+    made : WellMade st′
+    held : heldAt st′ c ≡ heardAfter (heldAt st c) hs
     nothing : NothingElse (heldAt st c) f hs
     once : Once f hs
 
   -- a call that leaves the channel's row
-  quiet : (hs : List Heard) (old now : Station) → WellMade now → rowAt now c ≡ rowAt old c → Since hs old → Since hs now
-  quiet hs old now w q i = record { made = w; held = ap frameOf q ∙ i .held; nothing = i .nothing; once = i .once }
+  quiet : (hs : List Heard) (old st′ : Station) → WellMade st′ → rowAt st′ c ≡ rowAt old c → Since hs old → Since hs st′
+  quiet hs old st′ w q i = record { made = w; held = ap frameOf q ∙ i .held; nothing = i .nothing; once = i .once }
 
   module _ (h : Heard) (before : List Said) (old : Station) (r : Stepped) (o : OffersTo old c (h .epoch) (h .bytes) r) (i : Since (heardOn c before) old) where
     abbrev answer : List ℕ
@@ -163,10 +163,10 @@ module _ (st : Station) (c f : ℕ) (served : isNoChannel c ≡ false) where
           );
         }
 
-  since : WellMade st → (all : List Said) (now : Station) → RunsFrom st all now → Steady c f all → Since (heardOn c all) now
+  since : WellMade st → (all : List Said) (st′ : Station) → RunsFrom st all st′ → Steady c f all → Since (heardOn c all) st′
   unfolding heardOn heardBy
-  since made all now none w = record { made = made; held = refl; nothing = tt; once = tt }
-  since made all now (offers k epoch s before old r run o) w =
+  since made all st′ none w = record { made = made; held = refl; nothing = tt; once = tt }
+  since made all st′ (offers k epoch s before old r run o) w =
       by (since made before old run (steady-before c f (said (Offer k epoch s) (answerPaper (r .answer))) before w)) (eqb k c) refl
     where
       h : Heard
@@ -179,7 +179,7 @@ module _ (st : Station) (c f : ℕ) (served : isNoChannel c ≡ false) where
           (subst (λ (j : ℕ). Steady c f (said (Offer j epoch s) (answerPaper (r .answer)) ∷ before)) e w)
       by i false q =
           quiet (heardOn c before) old (r .station) (offer-made old k epoch s r (i .made) o) (offer-other old k epoch s r c (λ e. eqb-false k c q (sym e)) o) i
-  since made all now (resets k before old r run o) w =
+  since made all st′ (resets k before old r run o) w =
       let i = since made before old run (steady-before c f (said (Reset k) (writtenPaper (r .answer))) before w) in
       let n : c ≡ k → ⊥ = λ e. w .no-reset (writtenPaper (r .answer)) (inl (ap (λ (j : ℕ). said (Reset j) (writtenPaper (r .answer))) (sym e))) in
       quiet (heardOn c before) old (r .station) (reset-made old k r (i .made) o) (reset-other old k r c n o) i
@@ -206,9 +206,9 @@ module _ (st : Station) (c f : ℕ) (served : isNoChannel c ≡ false) where
         let j = one-more h before old r o i w in
         says h before old r o i (good (h ∷ heardOn c before) (j .nothing) (j .once) .0 (g .0) (g .1))
 
-    good-taken : (all : List Said) (now : Station) → RunsFrom st all now → Steady c f all → (h : Heard) (a : List ℕ) → Among (said (offerTo c h) a) all → GoodOf f h → SaysTaken a
-    good-taken all now none w h a m g = absurd m
-    good-taken all now (offers k epoch s before old r run o) w h a m g =
+    good-taken : (all : List Said) (st′ : Station) → RunsFrom st all st′ → Steady c f all → (h : Heard) (a : List ℕ) → Among (said (offerTo c h) a) all → GoodOf f h → SaysTaken a
+    good-taken all st′ none w h a m g = absurd m
+    good-taken all st′ (offers k epoch s before old r run o) w h a m g =
         ⊎-elim here
         (λ (n : Among (said (offerTo c h) a) before).
         good-taken before old run (steady-before c f (said (Offer k epoch s) (answerPaper (r .answer))) before w) h a n g) m
@@ -221,7 +221,7 @@ module _ (st : Station) (c f : ℕ) (served : isNoChannel c ≡ false) where
             (subst (λ (e : ℕ). OffersTo old k e (h .bytes) r) (ap (λ (x : Said). epochIn (x .call)) q)
             (subst (λ (l : List ℕ). OffersTo old k epoch l r) (ap (λ (x : Said). bytesIn (x .call)) q) o)))
             (subst (λ (x : Call). Steady c f (said x (answerPaper (r .answer)) ∷ before)) (ap (λ (x : Said). x .call) q) w) g)
-    good-taken all now (resets k before old r run o) w h a m g =
+    good-taken all st′ (resets k before old r run o) w h a m g =
         ⊎-elim
         (λ (q : said (Reset k) (writtenPaper (r .answer)) ≡ said (offerTo c h) a). absurd (true≢false (ap (λ (x : Said). isReset (x .call)) q)))
         (λ (n : Among (said (offerTo c h) a) before).

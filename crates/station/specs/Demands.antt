@@ -1,5 +1,5 @@
 -- All that the client demands, whole and in the client's order: one record, proved as `demands` in `proofs/Demands.antt`. The words in quotes are the
--- client's, or the paper's where it says more; what each field says stands in `Demand1`, `Strings`, `Words`, `Demand2`, `Demand3`, `Relock` and
+-- client's, or the paper's where it says more; what each field says stands in `Demand1`, `Strings`, `Sent`, `Words`, `Demand2`, `Demand3`, `Relock` and
 -- `Health`.
 -- Assumes nothing.
 use Prim.Native.Nat.{ℕ, _^_, _≤_, _<_}
@@ -19,6 +19,7 @@ use Rattle.station.specs.Said.{Said, RunsFrom, callsOf, Ran}
 use Rattle.station.specs.Demand1.{OneAnswer, StationAnswers, StringsAnswer, StationNumbers, StringNumbers, WellMade, RefusalLeaves, ChannelLeaves, NoOutputByte}
 use Rattle.station.specs.Strings.{Checking, CheckedAgain, Encoding, Relative}
 use Rattle.station.specs.Words.{RoundTrips, Ranges}
+use Rattle.station.specs.Sent.{SentString, HeardAsSent}
 use Rattle.station.specs.Demand2.{Tallied, Counted}
 use Rattle.station.specs.Demand3.{Answered, Exchanged, SameCalls, Reordered, SameShown, SameBooks, BookRule}
 use Rattle.station.specs.Relock.{EveryBeat, Relocked}
@@ -44,6 +45,8 @@ pub record AllDemands : Type 0 where
   pub checked-again : CheckedAgain
   pub encoding : (n : ℕ) → n < 2 ^ 85 → Encoding n
   pub relative : Relative
+  -- and so at the station: "single flips repaired, pairs refused, clean strings taken"
+  pub sent : (st : Station) (c epoch n : ℕ) → SentString n → HeardAsSent st c epoch n
   -- "read and written as GLONASS ICD 5.0 says, sign bits and layouts included."
   pub ranges : Ranges
   -- "A record written and read back is the same record; a good string read and written again is the same string, its repair made, but that reserved
@@ -78,4 +81,3 @@ pub record AllDemands : Type 0 where
       → (f : ℕ) → FirstOf15 (rowAt (r .station) c .start) f → Relocked c f taken (r .station)
   -- "Without a record, or without a book entry for its n, a channel's satellite is unknown. Otherwise it is usable if .."
   pub health : (cs : List Call) (st : Station) → Runs cs st → (c : ℕ) → isNoChannel c ≡ false → HealthIn cs c (healthBy (keptAt st c) (st .book))
-  -- ==== sent strings are heard: the field that says so comes here

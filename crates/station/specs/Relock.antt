@@ -41,5 +41,5 @@ pub record Relocked (c f : ℕ) (taken : Heard) (st : Station) : Type 0 where
   -- it "begins by e+29"
   pub in-time : f ≤ taken .epoch + 29
   -- "and its good strings (not refused by 2 to 5) are taken": whatever calls were made since, each good string of it among them was answered so
-  pub good-taken : (since : List Said) (now : Station) → RunsFrom st since now → Steady c f since
+  pub good-taken : (since : List Said) (st′ : Station) → RunsFrom st since st′ → Steady c f since
       → (h : Heard) (a : List ℕ) → Among (said (offerTo c h) a) since → GoodOf f h → SaysTaken a

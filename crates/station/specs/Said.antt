@@ -38,8 +38,8 @@ callsOf all = map (λ (x : Said). x .call) all
 pub record Ran (from : Station) (cs : List Call) : Type 0 where
   pub all : List Said
   pub calls : callsOf all ≡ cs
-  pub now : Station
-  pub run : RunsFrom from all now
+  pub left : Station
+  pub run : RunsFrom from all left
 
 -- the answers that the calls on one channel gave
 unfoldable pub answersOn : ℕ → List Said → List (List ℕ)
