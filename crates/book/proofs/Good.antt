@@ -8,7 +8,8 @@ use borrow.Author.Tests.{ne-eqb, leb-true}
 use lib.Dec.{eqb, leb, lit≤}
 use Rattle.strings.specs.Pick.{pick}
 use Rattle.records.specs.declared.kinds.Kind.{Kind}
-use Rattle.words.proofs.Ranges.{readable, mayFail, reading-fails}
+use Rattle.words.specs.Ranges.{readable, mayFail}
+use Rattle.words.proofs.Ranges.{reading-fails}
 use Rattle.records.specs.declared.kinds.Kind.the-variants.{Five, Even, Odd}
 use Rattle.book.specs.Shows.{isGood, isShown, fourYears, dayInFour, slotIn}
 

@@ -32,7 +32,8 @@ use Rattle.words.specs.declared.reading.Reading.the-variants.{Read, Refused as 
 use Rattle.layout.specs.Layout.{layout, kindNumber}
 use Rattle.words.specs.Values.{valuesOf, firstBad}
 use Rattle.words.specs.Calls.{numberIn, readTests, readingWords, Reads, writeTests, stringOf, Writes}
-use Rattle.words.proofs.RecordLists.{record-kind, record-values}
+use Rattle.records.proofs.RecordLists.{record-kind}
+use Rattle.words.proofs.RecordLists.{record-values}
 use Rattle.words.proofs.RoundTrips.{read-once, read-numbers, write-once, write-numbers}
 use Rattle.words.specs.Immediate.{immediateOf}
 use Rattle.book.specs.Entry.{meaning}

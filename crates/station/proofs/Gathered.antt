@@ -20,10 +20,11 @@ use Rattle.records.specs.Records.{kindOf, listOf}
 use Rattle.layout.specs.Layout.{layout}
 use Rattle.words.specs.Values.{valuesOf, firstBad}
 use Rattle.words.specs.Tidied.{tidied}
-use Rattle.words.proofs.Rows.{layout-long}
+use Rattle.layout.proofs.Rows.{layout-long}
 use Rattle.words.proofs.Trip.{kind-values-long}
 use Rattle.words.proofs.RoundTrips.{written-then-read, written-clean, read-then-written, tidied-is, tidied-only}
-use Rattle.words.proofs.Ranges.{FirstOut, none-bad-is, readable, mayFail, reading-fails, read-range, write-range}
+use Rattle.words.specs.Ranges.{FirstOut, readable, mayFail}
+use Rattle.words.proofs.Ranges.{none-bad-is, reading-fails, read-range, write-range}
 use Rattle.station.specs.Strings.{Checking, CheckedAgain, Encoding, Relative}
 use Rattle.station.specs.Words.{RoundTrips, FirstFails, legal, Ranges}
 
