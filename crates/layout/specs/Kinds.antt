@@ -4,11 +4,12 @@
 use Prim.Native.Nat.{ℕ}
 use mathlib.Core.Bool.{Bool, true, _&&_, Bool·beq}
 use mathlib.Core.List.{List, [], _∷_}
+use mathlib.Core.Path.{_≡_, refl}
 use lib.Dec.{T}
 use Rattle.strings.specs.Table413.{_to_, has}
 use Rattle.records.specs.declared.kinds.Kind.{Kind}
 use Rattle.records.specs.declared.kinds.Kind.the-variants.{One, Two, Three, Four, Five, Even, Odd, Fourteen}
-use Rattle.layout.specs.Layout.{ofKind}
+use Rattle.layout.specs.Layout.{kindNumber, ofKind}
 
 -- "string 1", .., "string 5", "even 6..14", "odd 7..15", "frame 5, string 14"
 abbrev pub numbers : Kind → List ℕ
@@ -35,3 +36,11 @@ kind-numbers Five = tt
 kind-numbers Even = tt
 kind-numbers Odd = tt
 kind-numbers Fourteen = tt
+
+abbrev numbered : List Kind → List ℕ
+numbered [] = []
+numbered (k ∷ ks) = kindNumber k ∷ numbered ks
+
+-- the kinds in the order of the paper's table are numbered 1 to 8
+pub kinds-numbered : numbered (One ∷ Two ∷ Three ∷ Four ∷ Five ∷ Even ∷ Odd ∷ Fourteen ∷ []) ≡ 1 to 8
+kinds-numbered = refl

@@ -5,8 +5,9 @@ use mathlib.Core.Path.{_≡_, refl}
 use Prim.Native.Nat.{ℕ}
 use Rattle.strings.specs.declared.Refusal.{Refusal}
 use Rattle.strings.specs.declared.Refusal.the-variants.{Channel, Shape, Damaged, Idle, Number, Early, Stale, OffBeat, Conflict, Range, Place, Room, Nothing, Slot}
+use Rattle.strings.specs.declared.Verdict.the-variants.{Clean, Repaired}
 use Rattle.strings.specs.Table413.{_to_}
-use Rattle.strings.specs.Numbers.{refusalPaper, numbersOf}
+use Rattle.strings.specs.Numbers.{refusalPaper, verdictPaper, numbersOf}
 use Rattle.strings.specs.Calls.{stringTests, checkTests}
 
 -- the names in the order of the paper's table; RANGE tells a place
@@ -26,6 +27,10 @@ singly (n ∷ ns) = (n ∷ []) ∷ singly ns
 -- their numbers are 1 to 14, and each is answered alone but for RANGE, which has its place beside it
 pub refusal-numbers : (place : ℕ) → inPaper (refusals place) ≡ singly (1 to 9) ++ ((10 ∷ place ∷ []) ∷ singly (11 to 14))
 refusal-numbers place = refl
+
+-- "clean, or repaired with its bit number": the case, 0 or 1 in this order, and the bit number, 0 where none was repaired
+pub verdict-numbers : (i : ℕ) → (verdictPaper Clean ∷ verdictPaper (Repaired i) ∷ []) ≡ (0 ∷ 0 ∷ []) ∷ (1 ∷ i ∷ []) ∷ []
+verdict-numbers i = refl
 
 -- "Check: 12, 2, 3, 4"
 pub check-order : (s out : List ℕ) → numbersOf (checkTests s out) ≡ 12 ∷ 2 ∷ 3 ∷ 4 ∷ []
