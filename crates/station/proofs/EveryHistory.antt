@@ -12,7 +12,6 @@ use Rattle.strings.specs.declared.Refusal.the-variants.{Channel, Shape, Damaged
 use Rattle.strings.specs.declared.Verdict.{Verdict}
 use Rattle.strings.specs.declared.Written.{Written}
 use Rattle.strings.specs.declared.Written.the-variants.{Done, Refused as NotWritten}
-use Rattle.strings.specs.Hamming.{ruling}
 use Rattle.strings.specs.Numbers.{Test, test, firstOf, answerOf}
 use Rattle.strings.specs.Calls.{writtenPaper}
 use Rattle.words.specs.Calls.{numberIn}
@@ -20,7 +19,7 @@ use Rattle.channel.specs.declared.News.{News}
 use Rattle.channel.specs.declared.Answer.{Answer}
 use Rattle.channel.specs.declared.Answer.the-variants.{Taken, Refused}
 use Rattle.channel.specs.Frame.{newsOf}
-use Rattle.hearing.specs.Hears.{verdictOf, plainOf, wholeOf}
+use Rattle.hearing.specs.Hears.{wholeOf, verdictIn}
 use Rattle.channel.specs.Offers.{answerPaper, toldAs}
 use Rattle.station.specs.declared.Station.{Station}
 use Rattle.station.specs.Station.{heldAt, isNoChannel, stationTests, toldIn, stationAfter, OffersTo, stationReset, Resets}
@@ -40,7 +39,7 @@ told-by m v w ts qs a =
 -- ---- an offer has an answer, and so has a reset
 pub some-answer : (st : Station) (c epoch : ℕ) (s : List ℕ) → Told (stationTests st c epoch s) (toldIn st c epoch s)
 some-answer st c epoch s =
-    told-by (numberIn (wholeOf s)) (verdictOf (ruling (plainOf s))) (newsOf (heldAt st c) epoch (wholeOf s)) (stationTests st c epoch s)
+    told-by (numberIn (wholeOf s)) (verdictIn s) (newsOf (heldAt st c) epoch (wholeOf s)) (stationTests st c epoch s)
     (Channel ∷ Shape ∷ Damaged ∷ Idle ∷ Number ∷ Early ∷ Stale ∷ OffBeat ∷ Conflict ∷ []) (
       (0, (refl, refl)),
       (

@@ -8,7 +8,6 @@ use mathlib.Core.Path.{_≡_}
 use lib.Dec.{ltb}
 use lib.ListN.{getD, set, replicate}
 use Rattle.strings.specs.Pick.{pick}
-use Rattle.strings.specs.Hamming.{ruling}
 use Rattle.strings.specs.Numbers.{Test, test, answerOf}
 use Rattle.strings.specs.Calls.{writtenPaper}
 use Rattle.book.specs.declared.Book.{Book}
@@ -17,7 +16,7 @@ use Rattle.channel.specs.declared.Row.{Row}
 use Rattle.tallies.specs.Tallies.{noneCounted}
 use Rattle.channel.specs.Frame.{Frame}
 use Rattle.channel.specs.Row.{frameOf, emptyRow}
-use Rattle.hearing.specs.Hears.{verdictOf, plainOf, wholeOf}
+use Rattle.hearing.specs.Hears.{wholeOf, verdictIn}
 use Rattle.channel.specs.Offers.{answerPaper, toldOf, offerTests, offeredRow, storesIt}
 use Rattle.shows.specs.Shows.{showsOf, brought}
 use Rattle.station.specs.declared.Station.{Station}
@@ -53,7 +52,7 @@ stationTests st c epoch s = test 1 (isNoChannel c) ∷ offerTests (heldAt st c) 
 
 -- "A taken offer answers m, a verdict .. and news"
 abbrev pub toldIn : Station → ℕ → ℕ → List ℕ → List ℕ
-toldIn st c epoch s = toldOf (heldAt st c) epoch (wholeOf s) (verdictOf (ruling (plainOf s)))
+toldIn st c epoch s = toldOf (heldAt st c) epoch (wholeOf s) (verdictIn s)
 
 -- "Each string newly stored brings all entries that its frame then shows to the book; one already held changes only tallies"
 abbrev pub bookAfter : Book → Row → ℕ → List ℕ → Book
