@@ -12,6 +12,7 @@ pub mod Reorder
 pub mod Refusals
 pub mod EveryHistory
 pub mod EveryCall
+pub mod Channels
 pub mod Gathered
 pub mod WellMade
 pub mod Exchange

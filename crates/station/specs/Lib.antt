@@ -2,6 +2,7 @@ pub mod Station
 pub mod Queries
 pub mod Orders
 pub mod Slots
+pub mod Channels
 pub mod Sent
 pub mod History
 pub mod Said

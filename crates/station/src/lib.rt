@@ -7,7 +7,6 @@ use book::Book;
 use book::Entry;
 use channel::Answer;
 use channel::Row;
-pub use offering::bring_if;
 pub use offering::fresh;
 pub use offering::offer;
 pub use offering::reset;

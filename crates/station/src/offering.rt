@@ -48,8 +48,8 @@ pub fn offer(mut st: Station, channel: u8, epoch: u32, s: &[u8]) -> Stepped
     let answer = offered.answer;
     st.rows[i] = next;
     let book = st.book;
-    let now = bring_if(answer, next, book);
-    st.book = now;
+    let joined = bring_if(answer, next, book);
+    st.book = joined;
     Stepped {
         station: st,
         answer,
@@ -57,7 +57,7 @@ pub fn offer(mut st: Station, channel: u8, epoch: u32, s: &[u8]) -> Stepped
 }
 
 // A string newly stored brings all that its frame then shows to the book.
-pub fn bring_if(answer: Answer, row: Row, b: Book) -> Book
+fn bring_if(answer: Answer, row: Row, b: Book) -> Book
     ensures { λ r. ⌜ r ≡ pick (isStored answer) (brought b (showsOf (frameOf row))) b ⌝ }
 {
     if is_stored(answer) { bring(row, b) } else { b }

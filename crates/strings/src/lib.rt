@@ -12,7 +12,6 @@ pub use bits::well_shaped;
 pub use checking::check;
 pub use hamming::Damage;
 pub use hamming::Ruling;
-pub use hamming::examine;
 pub use hamming::make_check_bits;
 pub use numbers::refusal_number;
 
