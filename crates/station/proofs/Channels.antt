@@ -10,7 +10,7 @@ use lib.Dec.{ltb→lt}
 use lib.ListN.{length, getD}
 use Rattle.strings.specs.Numbers.{Test, test, answerOf, Exactly}
 use Rattle.station.specs.declared.Station.{Station}
-use Rattle.station.specs.Station.{isNoChannel, Resets}
+use Rattle.station.specs.Station.{isNoChannel}
 use Rattle.station.specs.Queries.{FindsTallies, FindsHealth}
 use Rattle.station.specs.Channels.{ChannelExactly}
 use Rattle.station.proofs.EveryCall.{station-numbers}
@@ -22,7 +22,7 @@ exact c ts told said e x =
     ((λ f. ltb→lt 23 c (x .refused 0 (zero-lt-suc (length ts)) .0 (ap (λ (l : List ℕ). getD l 0 0) f) .0)), (λ h. e ∙ rw (lt-ltb 23 c h)))
 
 pub channel-exactly : (st : Station) (c : ℕ) → ChannelExactly st c
-unfolding Resets FindsTallies FindsHealth
+unfolding FindsTallies FindsHealth
 channel-exactly st c =
     let n = station-numbers st in
     record {
