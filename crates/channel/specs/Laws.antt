@@ -1,5 +1,5 @@
--- What an offer does to a row, in numbers: of the bits of strings, the bytes and the mask of rows, starts and epochs. The definitions before are one way
--- to say it; these laws hold whatever their words are. The sentences in quotes are the paper's, and the proofs stand in `proofs/`.
+-- What an offer does to a row, in numbers: the bits of strings, the bytes and the mask of rows, starts and epochs. The definitions say how an offer is
+-- decided; these laws say what comes of it, in none of their words. The sentences in quotes are the paper's. The proofs stand in `proofs/`.
 -- Assumes nothing.
 use Prim.Native.Nat.{ℕ, _+_, _-_, _*_, _/_, _%_, _^_, _≤_, _<_}
 use mathlib.Core.Bool.{false}
@@ -19,8 +19,8 @@ use Rattle.channel.specs.Offers.{answerPaper, offerTests, Offers}
 use Rattle.channel.specs.History.{Call, Runs}
 
 -- ---- the numbers
--- the i-th number of an answer: 0 is 0 where the offer is taken, or the number that says no; 4 is the news of one that is taken, 0 already held,
--- 1 kept, 2 record built, 3 record out of range
+-- an answer's numbers, counted from 0. The first is 0 where the offer is taken, and else the number that says no; number 4 of one that is taken is its
+-- news: 0 already held, 1 kept, 2 record built, 3 record out of range
 abbrev pub said : Offered → ℕ → ℕ
 said r i = getD (answerPaper (r .answer)) i 0
 
