@@ -29,7 +29,7 @@ use Rattle.channel.specs.Frame.{Frame, emptyFrame, withString, startOf, 
 use Rattle.channel.specs.Row.{stringIn, frameOf}
 use Rattle.channel.specs.Offers.{answerPaper, toldOf, offerTests, Offers}
 use Rattle.channel.specs.History.{Call, Offer, Reset, frameAfter, heldAfter, Runs}
-use Rattle.channel.specs.Laws.{IsTaken, mOf, startAt, Passes, IsHeld, SameBits, Again}
+use Rattle.channel.specs.Laws.{IsTaken, mIn, startAt, Passes, IsHeld, SameBits, Again}
 use Rattle.channel.proofs.Frames.{present-held}
 use Rattle.channel.proofs.HeldFrame.{held-is}
 use Rattle.channel.proofs.Tested.{all-pass, taken-first, taken-passes, is-present, passed-said}
@@ -59,7 +59,7 @@ module _ (row : Row) (epoch : ℕ) (s : List ℕ) (r : Offered) (o : Offers row 
   n = wholeOf s
 
   abbrev old : ℕ
-  old = stringIn (row .strings) (mOf s)
+  old = stringIn (row .strings) (mIn s)
 
   -- CONFLICT alone is left
   nine-left : answerPaper (r .answer) ≡ answerOf (test 9 (not (eqb (dataIn old) (dataIn n))) ∷ []) (toldOf (frameOf row) epoch n (verdictIn s))
@@ -68,7 +68,7 @@ module _ (row : Row) (epoch : ℕ) (s : List ℕ) (r : Offered) (o : Offers row 
       let e = h .0 in
       passed-said row epoch s r o p
       ∙ rw (
-        present-held (row .present) (mOf s) here,
+        present-held (row .present) (mIn s) here,
         le-ltb (startAt epoch s) (row .start) (omega arith),
         le-ltb (row .start) (startAt epoch s) (omega arith),
         eq-eqb (startAt epoch s) (row .start) e,
@@ -127,7 +127,7 @@ after-kept f epoch n k a = by (isHere f epoch n)
     by false = with-kept (frameFor f (startOf epoch n)) n k (for (isOfFrame f (startOf epoch n)))
 
 -- what is taken is such a string
-taken-kept : (f : Frame) (epoch : ℕ) (s : List ℕ) → firstOf (offerTests f epoch s) ≡ 0 → Kept (mOf s) (wholeOf s)
+taken-kept : (f : Frame) (epoch : ℕ) (s : List ℕ) → firstOf (offerTests f epoch s) ≡ 0 → Kept (mIn s) (wholeOf s)
 taken-kept f epoch s t =
     let p = all-pass f epoch s t in
     record { encoded = left-encoded (plainOf s) (p .sound); number = refl; small = omega (arith, whole-lt s, p .idle) }
@@ -166,8 +166,8 @@ held-same cs row epoch s r run o t h i l u =
     let p = taken-passes row epoch s r o t in
     let here = is-present row epoch s (p .numbered) h in
     let f = held-is cs row run in
-    let k : Kept (mOf s) (stringIn (row .strings) (mOf s)) =
-    rw here at (subst AllKept (sym f) (all-kept cs) (mOf s) here)
+    let k : Kept (mIn s) (stringIn (row .strings) (mIn s)) =
+    rw here at (subst AllKept (sym f) (all-kept cs) (mIn s) here)
     in
-    let d = same-data (stringIn (row .strings) (mOf s)) (wholeOf s) (again row epoch s r o p h .taken .0 t) in
-    ap (λ (x : ℕ). bitOf x i) (kept-once (mOf s) (stringIn (row .strings) (mOf s)) (wholeOf s) k (taken-kept (frameOf row) epoch s (taken-first row epoch s r o t)) d)
+    let d = same-data (stringIn (row .strings) (mIn s)) (wholeOf s) (again row epoch s r o p h .taken .0 t) in
+    ap (λ (x : ℕ). bitOf x i) (kept-once (mIn s) (stringIn (row .strings) (mIn s)) (wholeOf s) k (taken-kept (frameOf row) epoch s (taken-first row epoch s r o t)) d)

@@ -23,7 +23,7 @@ use Rattle.channel.specs.declared.Offered.{Offered}
 use Rattle.channel.specs.Frame.{Frame, withString, startOf, isHere, frameFor, afterString, newsAt, newsOf}
 use Rattle.channel.specs.Row.{frameOf}
 use Rattle.channel.specs.Offers.{newsNumber, toldAs, Offers}
-use Rattle.channel.specs.Laws.{said, IsTaken, mOf, IsHeld, FourPresent, Completes, NewsTold}
+use Rattle.channel.specs.Laws.{said, IsTaken, mIn, IsHeld, FourPresent, Completes, NewsTold}
 use Rattle.channel.proofs.Four.{low-four, news-is}
 use Rattle.channel.proofs.HeldFrame.{offered-is, frame-after}
 use Rattle.channel.proofs.Tested.{is-here, not-here, taken-passes, taken-told, taken-test}
@@ -62,14 +62,14 @@ module _ (row : Row) (epoch : ℕ) (s : List ℕ) (r : Offered) (long : length (
   more = withString (frameFor (frameOf row) (startOf epoch n)) n
 
   abbrev newsBy : Bool → News
-  newsBy here = pick here AlreadyHeld (newsAt more (mOf s))
+  newsBy here = pick here AlreadyHeld (newsAt more (mIn s))
 
   news-said : (here : Bool) → isHere (frameOf row) epoch n ≡ here → said r 4 ≡ newsNumber (newsBy here)
   news-said here e =
-      ap (λ (l : List ℕ). getD l 4 0) (taken-told row epoch s r o t) ∙ fifth (mOf s) (verdictIn s) (newsOf (frameOf row) epoch n)
+      ap (λ (l : List ℕ). getD l 4 0) (taken-told row epoch s r o t) ∙ fifth (mIn s) (verdictIn s) (newsOf (frameOf row) epoch n)
       ∙ ap (λ (b : Bool). newsNumber (newsBy b)) e
 
-  least : 1 ≤ mOf s
+  least : 1 ≤ mIn s
   least = taken-passes row epoch s r o t .numbered
 
   held : IsHeld row epoch s → said r 4 ≡ 0
@@ -84,15 +84,15 @@ module _ (row : Row) (epoch : ℕ) (s : List ℕ) (r : Offered) (long : length (
         ∙ ap (λ (b : Bool). pick b (frameOf row) more) (not-here row epoch s least fresh)
 
     abbrev completes : Bool
-    completes = leb (mOf s) 4 && eqb (r .row .present % 16) 15
+    completes = leb (mIn s) 4 && eqb (r .row .present % 16) 15
 
     news-new : said r 4 ≡ newsNumber (pick completes (pick (areGood (r .row .strings)) RecordBuilt RecordOutOfRange) Kept)
     news-new =
-        news-said false (not-here row epoch s least fresh) ∙ ap (λ (f : Frame). newsNumber (newsAt f (mOf s))) (sym row-more)
-        ∙ ap newsNumber (news-is (r .row .start) (r .row .present) (r .row .strings) (mOf s))
+        news-said false (not-here row epoch s least fresh) ∙ ap (λ (f : Frame). newsNumber (newsAt f (mIn s))) (sym row-more)
+        ∙ ap newsNumber (news-is (r .row .start) (r .row .present) (r .row .strings) (mIn s))
 
     does : Completes s r → completes ≡ true
-    does c = rw (le-leb (mOf s) 4 (c .0), eq-eqb (r .row .present % 16) 15 (four-low (r .row) (c .1)))
+    does c = rw (le-leb (mIn s) 4 (c .0), eq-eqb (r .row .present % 16) 15 (four-low (r .row) (c .1)))
 
     built : Completes s r → InRange (r .row .strings) → said r 4 ≡ 2
     built c i =
@@ -111,11 +111,11 @@ module _ (row : Row) (epoch : ℕ) (s : List ℕ) (r : Offered) (long : length (
         by false e = refl
 
     kept : (Completes s r → ⊥) → said r 4 ≡ 1
-    kept c = news-new ∙ by (leb (mOf s) 4) (eqb (r .row .present % 16) 15) refl refl
+    kept c = news-new ∙ by (leb (mIn s) 4) (eqb (r .row .present % 16) 15) refl refl
       where
-        by : (a b : Bool) → leb (mOf s) 4 ≡ a → eqb (r .row .present % 16) 15 ≡ b
+        by : (a b : Bool) → leb (mIn s) 4 ≡ a → eqb (r .row .present % 16) 15 ≡ b
             → newsNumber (pick (a && b) (pick (areGood (r .row .strings)) RecordBuilt RecordOutOfRange) Kept) ≡ 1
-        by true true p q = absurd (c (leb-true (mOf s) 4 p, low-four-all (r .row) (eqb-true (r .row .present % 16) 15 q)))
+        by true true p q = absurd (c (leb-true (mIn s) 4 p, low-four-all (r .row) (eqb-true (r .row .present % 16) 15 q)))
         by true false p q = refl
         by false b p q = refl
 

@@ -13,7 +13,7 @@ use Rattle.channel.specs.declared.Row.{Row}
 use Rattle.channel.specs.declared.Offered.{Offered}
 use Rattle.channel.specs.Row.{isPresent, holdsFrame, frameOf}
 use Rattle.channel.specs.Offers.{answerPaper, Offers}
-use Rattle.channel.specs.Laws.{IsTaken, mOf, startAt, maskBit, HoldsFrame, Passes, Starts}
+use Rattle.channel.specs.Laws.{IsTaken, mIn, startAt, maskBit, HoldsFrame, Passes, Starts}
 use Rattle.channel.proofs.Frames.{number-small}
 use Rattle.channel.proofs.Tested.{held-true, held-false, present-is, none-fits, taken-first, passed-said, passed-first}
 
@@ -61,11 +61,11 @@ module _ (row : Row) (epoch : ℕ) (s : List ℕ) (r : Offered) (o : Offers row 
             )
         by false u = passed-first row epoch s r o p ∙ rw u
 
-    late : at ≡ row .start → maskBit row (mOf s) ≡ 0 → IsTaken r
+    late : at ≡ row .start → maskBit row (mIn s) ≡ 0 → IsTaken r
     late e b = by (holdsFrame (row .present)) refl
       where
-        absent : isPresent (row .present) (mOf s) ≡ false
-        absent = present-is row (mOf s) (p .numbered) (number-small (wholeOf s)) ∙ ne-eqb (maskBit row (mOf s)) 1 (λ q. omega arith)
+        absent : isPresent (row .present) (mIn s) ≡ false
+        absent = present-is row (mIn s) (p .numbered) (number-small (wholeOf s)) ∙ ne-eqb (maskBit row (mIn s)) 1 (λ q. omega arith)
 
         by : (u : Bool) → holdsFrame (row .present) ≡ u → IsTaken r
         by true u =

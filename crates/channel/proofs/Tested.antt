@@ -26,7 +26,7 @@ use Rattle.channel.specs.declared.Offered.{Offered}
 use Rattle.channel.specs.Frame.{Frame, isOfFrame, isHere, placeTests}
 use Rattle.channel.specs.Row.{isPresent, holdsFrame, frameOf}
 use Rattle.channel.specs.Offers.{answerPaper, toldOf, offerTests, Offers}
-use Rattle.channel.specs.Laws.{said, IsTaken, mOf, startAt, maskBit, HoldsFrame, Passes, IsHeld}
+use Rattle.channel.specs.Laws.{said, IsTaken, mIn, startAt, maskBit, HoldsFrame, Passes, IsHeld}
 use Rattle.channel.proofs.Frames.{number-small, present-held}
 use Rattle.channel.proofs.HeldFrame.{said-by, first-said}
 
@@ -150,13 +150,13 @@ module _ (row : Row) (m : ℕ) (least : 1 ≤ m) (most : m ≤ 15) where
   present-is = rw (le-leb 1 m least, le-leb m 15 most)
 
 -- "same start and m held", of a string with a number
-module _ (row : Row) (epoch : ℕ) (s : List ℕ) (least : 1 ≤ mOf s) where
-  here-true : IsHeld row epoch s → (isPresent (row .present) (mOf s) ≡ true) × (isHere (frameOf row) epoch (wholeOf s) ≡ true)
+module _ (row : Row) (epoch : ℕ) (s : List ℕ) (least : 1 ≤ mIn s) where
+  here-true : IsHeld row epoch s → (isPresent (row .present) (mIn s) ≡ true) × (isHere (frameOf row) epoch (wholeOf s) ≡ true)
   here-true h =
-      let p = present-is row (mOf s) least (number-small (wholeOf s)) ∙ eq-eqb (maskBit row (mOf s)) 1 (h .1) in
-      (p, rw (present-held (row .present) (mOf s) p, eq-eqb (startAt epoch s) (row .start) (h .0), p))
+      let p = present-is row (mIn s) least (number-small (wholeOf s)) ∙ eq-eqb (maskBit row (mIn s)) 1 (h .1) in
+      (p, rw (present-held (row .present) (mIn s) p, eq-eqb (startAt epoch s) (row .start) (h .0), p))
 
-  pub is-present : IsHeld row epoch s → isPresent (row .present) (mOf s) ≡ true
+  pub is-present : IsHeld row epoch s → isPresent (row .present) (mIn s) ≡ true
   is-present h = here-true h .0
 
   pub is-here : IsHeld row epoch s → isHere (frameOf row) epoch (wholeOf s) ≡ true
@@ -167,9 +167,9 @@ module _ (row : Row) (epoch : ℕ) (s : List ℕ) (least : 1 ≤ mOf s) where
     where
       by : (t : Bool) → isHere (frameOf row) epoch (wholeOf s) ≡ t → t ≡ false
       by true e =
-          let p = both (isOfFrame (frameOf row) (startAt epoch s)) (isPresent (row .present) (mOf s)) e in
+          let p = both (isOfFrame (frameOf row) (startAt epoch s)) (isPresent (row .present) (mIn s)) e in
           let q = both (holdsFrame (row .present)) (eqb (startAt epoch s) (row .start)) (p .0) in
-          let b : maskBit row (mOf s) ≡ 1 = eqb-true (maskBit row (mOf s)) 1 (sym (present-is row (mOf s) least (number-small (wholeOf s))) ∙ p .1) in
+          let b : maskBit row (mIn s) ≡ 1 = eqb-true (maskBit row (mIn s)) 1 (sym (present-is row (mIn s) least (number-small (wholeOf s))) ∙ p .1) in
           absurd (h (eqb-true (startAt epoch s) (row .start) (q .1), b))
       by false e = refl
 

@@ -24,7 +24,7 @@ use Rattle.channel.specs.Frame.{startOf, isOfFrame, isHere}
 use Rattle.channel.specs.Row.{isPresent, holdsFrame, Held, frameIn, heldOf, frameOf, emptyRow, newFrame, heldFor, stored, heldWith, counted}
 use Rattle.channel.specs.Offers.{takenRow, offerTests, Offers, offeredRow}
 use Rattle.channel.specs.History.{Call, Runs, fresh, offering, resetting}
-use Rattle.channel.specs.Laws.{IsTaken, mOf, startAt, HoldsFrame, NewFrame, AbsentZero}
+use Rattle.channel.specs.Laws.{IsTaken, mIn, startAt, HoldsFrame, NewFrame, AbsentZero}
 use Rattle.channel.proofs.Frames.{number-small, bit-same, bit-other, part, part-at, part-long, part-same, part-stays}
 use Rattle.channel.proofs.HeldFrame.{for-long, offered-is, runs-long, taken-numbered}
 use Rattle.channel.proofs.Tested.{holds, taken-passes, taken-test}
@@ -121,22 +121,22 @@ module _ (row : Row) (epoch : ℕ) (s : List ℕ) (r : Offered) (long : length (
   alone =
       ap heldOf (offered-is row epoch s r o)
       ∙ ap (λ (b : Bool). heldOf (pick b (takenRow row epoch n) row)) (taken-test row epoch s r o t)
-      ∙ ap (λ (b : Bool). pick (b && isPresent (row .present) (mOf s)) (heldOf row) (stored (pick b (heldOf row) begun) n)) not-of
+      ∙ ap (λ (b : Bool). pick (b && isPresent (row .present) (mIn s)) (heldOf row) (stored (pick b (heldOf row) begun) n)) not-of
 
-  least : 1 ≤ mOf s
+  least : 1 ≤ mIn s
   least = taken-passes row epoch s r o t .numbered
 
   begun-long : length (begun .bytes) ≡ 165
   unfolding newFrame
   begun-long = length-replicate {A = ℕ} 165 0
 
-  new-own : part (stored begun n .bytes) (11 * (mOf s - 1)) ≡ stringBytes n
+  new-own : part (stored begun n .bytes) (11 * (mIn s - 1)) ≡ stringBytes n
   unfolding stored
   new-own =
       let u = number-small n in
-      part-same (begun .bytes) (stringBytes n) (11 * (mOf s - 1)) (string-length n) (omega (arith, begun-long))
+      part-same (begun .bytes) (stringBytes n) (11 * (mIn s - 1)) (string-length n) (omega (arith, begun-long))
 
-  new-other : (m : ℕ) → 1 ≤ m → m ≤ 15 → (m ≡ mOf s → ⊥) → part (stored begun n .bytes) (11 * (m - 1)) ≡ replicate 11 0
+  new-other : (m : ℕ) → 1 ≤ m → m ≤ 15 → (m ≡ mIn s → ⊥) → part (stored begun n .bytes) (11 * (m - 1)) ≡ replicate 11 0
   unfolding newFrame
   new-other m l u ne = part-stays begun n begun-long (whole-lt s) least m l u ne ∙ zero-part (11 * (m - 1)) (omega arith)
 
@@ -147,6 +147,6 @@ module _ (row : Row) (epoch : ℕ) (s : List ℕ) (r : Offered) (long : length (
       record {
         start = ap (λ (h : Held). h .start) alone;
         present = ap (λ (h : Held). h .mask) alone;
-        own = ap (λ (h : Held). take 11 (drop (11 * (mOf s - 1)) (h .bytes))) alone ∙ new-own;
+        own = ap (λ (h : Held). take 11 (drop (11 * (mIn s - 1)) (h .bytes))) alone ∙ new-own;
         others = λ m l u ne. ap (λ (h : Held). take 11 (drop (11 * (m - 1)) (h .bytes))) alone ∙ new-other m l u ne;
       }

@@ -28,12 +28,12 @@ abbrev pub IsTaken : Offered → Type 0
 IsTaken r = said r 0 ≡ 0
 
 -- "Bits 84 to 81 are the string number m", of the string as the check leaves it
-abbrev pub mOf : List ℕ → ℕ
-mOf s = wordOf (wholeOf s) 84 81
+abbrev pub mIn : List ℕ → ℕ
+mIn s = wordOf (wholeOf s) 84 81
 
 -- "Its frame start is epoch - (m-1)"
 abbrev pub startAt : ℕ → List ℕ → ℕ
-startAt epoch s = epoch - (mOf s - 1)
+startAt epoch s = epoch - (mIn s - 1)
 
 -- "which of them are present": bit m-1 of the row's mask; and any of fifteen: "A row with no string present holds no frame"
 abbrev pub maskBit : Row → ℕ → ℕ
@@ -53,8 +53,8 @@ pub record Passes (epoch : ℕ) (s : List ℕ) : Type 0 where
   pub padding : getD s 10 0 % 8 ≡ 0
   pub sound : isDamaged (ruling (plainOf s)) ≡ false
   pub idle : bitOf (wholeOf s) 85 ≡ 0
-  pub numbered : 1 ≤ mOf s
-  pub in-time : mOf s - 1 ≤ epoch
+  pub numbered : 1 ≤ mIn s
+  pub in-time : mIn s - 1 ≤ epoch
 
 -- ---- 7 and 8: "STALE: start before the held start", "OFF BEAT: start 1..14 after the held start"
 pub record Starts (row : Row) (epoch : ℕ) (s : List ℕ) (r : Offered) : Type 0 where
@@ -66,15 +66,15 @@ pub record Starts (row : Row) (epoch : ℕ) (s : List ℕ) (r : Offered) : Type 
   -- "A string with a later start by 15 or more replaces the held frame. A first string starts one. Late strings of the held frame are welcome in any order"
   pub later : Passes epoch s → row .start + 15 ≤ startAt epoch s → IsTaken r
   pub first : Passes epoch s → row .present % 32768 ≡ 0 → IsTaken r
-  pub late : Passes epoch s → startAt epoch s ≡ row .start → maskBit row (mOf s) ≡ 0 → IsTaken r
+  pub late : Passes epoch s → startAt epoch s ≡ row .start → maskBit row (mIn s) ≡ 0 → IsTaken r
 
 -- ---- "A new frame leaves its other fourteen strings zero"
 -- a string that is taken and is of no held frame
 pub record NewFrame (epoch : ℕ) (s : List ℕ) (r : Offered) : Type 0 where
   pub start : r .row .start ≡ startAt epoch s
-  pub present : r .row .present ≡ 2 ^ (mOf s - 1)
-  pub own : bytesAt (r .row) (mOf s) ≡ stringBytes (wholeOf s)
-  pub others : (m : ℕ) → 1 ≤ m → m ≤ 15 → (m ≡ mOf s → ⊥) → bytesAt (r .row) m ≡ replicate 11 0
+  pub present : r .row .present ≡ 2 ^ (mIn s - 1)
+  pub own : bytesAt (r .row) (mIn s) ≡ stringBytes (wholeOf s)
+  pub others : (m : ℕ) → 1 ≤ m → m ≤ 15 → (m ≡ mIn s → ⊥) → bytesAt (r .row) m ≡ replicate 11 0
 
 -- so, after any calls, of every string that is not present
 abbrev pub AbsentZero : Row → Type 0
@@ -83,11 +83,11 @@ AbsentZero row = (m : ℕ) → 1 ≤ m → m ≤ 15 → maskBit row m ≡ 0 → 
 -- ---- 9: "CONFLICT: same start and m held, bits 80..9 differ"
 -- the string's start is the held one, and its m is present
 abbrev pub IsHeld : Row → ℕ → List ℕ → Type 0
-IsHeld row epoch s = (startAt epoch s ≡ row .start) × (maskBit row (mOf s) ≡ 1)
+IsHeld row epoch s = (startAt epoch s ≡ row .start) × (maskBit row (mIn s) ≡ 1)
 
 -- bits high to low of the held string are those of the offered one
 abbrev pub SameBits : Row → List ℕ → ℕ → ℕ → Type 0
-SameBits row s high low = (i : ℕ) → low ≤ i → i ≤ high → bitOf (numberOf (bytesAt row (mOf s))) i ≡ bitOf (wholeOf s) i
+SameBits row s high low = (i : ℕ) → low ≤ i → i ≤ high → bitOf (numberOf (bytesAt row (mIn s))) i ≡ bitOf (wholeOf s) i
 
 -- such a string that 2 to 6 let pass
 pub record Again (row : Row) (s : List ℕ) (r : Offered) : Type 0 where
@@ -101,7 +101,7 @@ FourPresent row = (m : ℕ) → 1 ≤ m → m ≤ 4 → maskBit row m ≡ 1
 
 -- "at the string that completes them": one of the four, newly stored, after which all four are present
 abbrev pub Completes : List ℕ → Offered → Type 0
-Completes s r = (mOf s ≤ 4) × FourPresent (r .row)
+Completes s r = (mIn s ≤ 4) × FourPresent (r .row)
 
 pub record NewsTold (row : Row) (epoch : ℕ) (s : List ℕ) (r : Offered) : Type 0 where
   pub held : IsHeld row epoch s → said r 4 ≡ 0

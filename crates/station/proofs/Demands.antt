@@ -45,7 +45,7 @@ use Rattle.station.specs.Demands.{AllDemands}
 use Rattle.station.proofs.ChannelRuns.{in-step, served-below, after-none, after-some, reset-none, row-offers}
 use Rattle.station.proofs.EveryHistory.{every-history}
 use Rattle.station.proofs.EveryCall.{station-answers, strings-answer, station-numbers, string-numbers, no-output-byte}
-use Rattle.station.proofs.Gathered.{checking, again, encoding, relative, ranges, round-trips}
+use Rattle.station.proofs.Gathered.{checking, again, encoding, relative, by-name, ranges, round-trips}
 use Rattle.station.proofs.Sent.{heard-as-sent}
 use Rattle.station.proofs.BookRule.{empty-exactly, greatest-there}
 use Rattle.station.proofs.Reorder.{offer-said, reset-said, same-book}
@@ -243,6 +243,7 @@ demands =
       encoding = encoding;
       relative = relative;
       sent = heard-as-sent;
+      by-name = by-name;
       ranges = ranges;
       round-trips = round-trips;
       tallies = λ all st run c e. tallied all st run c e (counted (callsOf all) st (runs-of all st run) c e);

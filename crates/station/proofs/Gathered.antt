@@ -22,11 +22,12 @@ use Rattle.words.specs.Values.{valuesOf, firstBad}
 use Rattle.words.specs.Tidied.{tidied}
 use Rattle.layout.proofs.Rows.{layout-long}
 use Rattle.words.proofs.Trip.{kind-values-long}
+use Rattle.words.proofs.Names.{read-named, written-named}
 use Rattle.words.proofs.RoundTrips.{written-then-read, written-clean, read-then-written, tidied-is, tidied-only}
 use Rattle.words.specs.Ranges.{FirstOut, readable, mayFail}
 use Rattle.words.proofs.Ranges.{none-bad-is, reading-fails, read-range, write-range}
 use Rattle.station.specs.Strings.{Checking, CheckedAgain, Encoding, Relative}
-use Rattle.station.specs.Words.{RoundTrips, FirstFails, legal, Ranges}
+use Rattle.station.specs.Words.{ByName, RoundTrips, FirstFails, legal, Ranges}
 
 -- ---- strings
 pub checking : (n : ℕ) → n < 2 ^ 85 → Encoded n → (out : List ℕ) → length out ≡ 11 → Checking n out
@@ -51,6 +52,9 @@ pub relative : Relative
 relative = record { written-read = sent-then-read; read-written = read-then-sent; inverse-alike = inverse-reads-alike }
 
 -- ---- words
+pub by-name : ByName
+by-name = record { read = read-named; written = written-named }
+
 pub round-trips : RoundTrips
 round-trips =
     record {

@@ -18,7 +18,7 @@ use Rattle.station.specs.History.{Call, channelOf, Runs, stationOf}
 use Rattle.station.specs.Said.{Said, RunsFrom, callsOf, Ran}
 use Rattle.station.specs.Demand1.{OneAnswer, StationAnswers, StringsAnswer, StationNumbers, StringNumbers, WellMade, RefusalLeaves, ChannelLeaves, NoOutputByte}
 use Rattle.station.specs.Strings.{Checking, CheckedAgain, Encoding, Relative}
-use Rattle.station.specs.Words.{RoundTrips, Ranges}
+use Rattle.station.specs.Words.{ByName, RoundTrips, Ranges}
 use Rattle.station.specs.Sent.{SentString, HeardAsSent}
 use Rattle.station.specs.Demand2.{Tallied, Counted}
 use Rattle.station.specs.Demand3.{Answered, Exchanged, SameCalls, Reordered, SameShown, SameBooks, BookRule}
@@ -48,6 +48,7 @@ pub record AllDemands : Type 0 where
   -- and so at the station: "single flips repaired, pairs refused, clean strings taken"
   pub sent : (st : Station) (c epoch n : ℕ) → SentString n → HeardAsSent st c epoch n
   -- "read and written as GLONASS ICD 5.0 says, sign bits and layouts included."
+  pub by-name : ByName
   pub ranges : Ranges
   -- "A record written and read back is the same record; a good string read and written again is the same string, its repair made, but that reserved
   -- bits and minus zeros become plain zeros and the check bits follow."

@@ -28,6 +28,13 @@ use Rattle.layout.specs.Layout.{layout}
 use Rattle.words.specs.Values.{valuesOf, inRange}
 use Rattle.words.specs.Calls.{Reads, Writes}
 use Rattle.words.specs.Tidied.{wordAt, Tidy}
+use Rattle.words.specs.Names.{Named}
+
+-- ---- m and each word, by its name, stand in the bits that the paper's table gives them
+pub record ByName : Type 0 where
+  pub read : (s : List ℕ) (k : Kind) (m : ℕ) (w : Record) → Reads s k (Read m w)
+      → (kindOf w ≡ k) × ((m ≡ wordOf (mended (numberOf s)) 84 81) × Named (mended (numberOf s)) w)
+  pub written : (m : ℕ) (w : Record) (out out′ : List ℕ) → Writes m w out Done out′ → (wordOf (numberOf out′) 84 81 ≡ m) × Named (numberOf out′) w
 
 -- ---- the string that is written again, of one that the check left as n: "the same string, its repair made, but that reserved bits and minus zeros
 -- become plain zeros and the check bits follow". `Tidy` says so bit for bit
