@@ -20,6 +20,7 @@ $1 == "uses" { from[++edges] = number[$2]; to[edges] = number[$3] }
 END {
     leave_out()
     for (i = 1; i <= n; i++) place(i)
+    for (r = 1; r <= rows; r++) line_up(r)
     for (b = 1; b <= n; b++) if (users[b]) choose_gutter(b)
     measure_across()
     for (b = 1; b <= n; b++) if (users[b]) run_lines(b)
@@ -46,20 +47,29 @@ function leave_out(    e, i) {
 
 # ---- rows and columns
 
-# below all that it uses of its group, in the column of one that stands right above it, or else the first that is free
-function place(i,    k, u, r, c) {
+# below all that it uses of its group
+function place(i,    k, r) {
     if (i == 1 || heading[i] != heading[i - 1]) { title[++rows] = heading[i]; first = rows }
     r = first + 1
-    for (k = 1; k <= uses[i]; k++) { u = used[i, k]; if (row[u] >= r) r = row[u] + 1 }
+    for (k = 1; k <= uses[i]; k++) if (row[used[i, k]] >= r) r = row[used[i, k]] + 1
     while (filled[r] == most) r++
-    for (k = 1; k <= uses[i]; k++) { u = used[i, k]; if (!c && row[u] == r - 1 && !((r, col[u]) in taken)) c = col[u] }
-    if (!c) for (c = 1; (r, c) in taken; c++);
-    row[i] = r; col[i] = c; taken[r, c] = i; filled[r]++
+    row[i] = r; in_row[r, ++filled[r]] = i
     if (r > rows) rows = r
-    if (c > columns) columns = c
     lines_of[i] = wrap(i, letters)
     for (k = 1; k < letters && wrap(i, k) > lines_of[i]; k++);
     if (lines_of[i] > tallest[r]) tallest[r] = lines_of[i]
+}
+
+# A row in the order of crates.txt, a crate below one that it uses where the next row up has one and there is room.
+function line_up(r,    k, j, i, c, before) {
+    for (j = 1; j <= filled[r]; j++) {
+        i = in_row[r, j]
+        c = before + 1
+        for (k = 1; k <= uses[i]; k++) if (row[used[i, k]] == r - 1 && col[used[i, k]] > c) { c = col[used[i, k]]; break }
+        if (c > most - filled[r] + j) c = most - filled[r] + j
+        col[i] = before = c
+        if (c > columns) columns = c
+    }
 }
 
 # The sentence in lines of at most so many letters, and how many they are. The fewest that do with no more lines make
