@@ -1,10 +1,14 @@
 # Reads requests, as bytes in decimal, and from the next file the line that answers each (second/README.md has
-# the table of both). Tells what the station said of its channels and its book. Words stay in the ICD's raw units.
+# the table of both). Tells what the station said of its channels and its book: each word raw, and beside it what that
+# is by the units of the ICD's Tables 4.5 and 4.9.
 
 BEGIN {
+    OFS = ", "
     words = split("P1 tk vx ax x  B P2 tb vy ay y  P3 gamma P l vz az z  tau dtau E P4 FT NT n M", name, " ")
     IMMEDIATE = 8; ENTRY = 9; TALLIES = 10; HEALTH = 11
     judged[1] = "usable"; judged[2] = "not usable"
+    split("January February March April May June July August September October November December", month, " ")
+    split("31 28 31 30 31 30 31 31 30 31 30 31", days, " ")
 }
 
 FNR == NR { for (i = 1; i <= NF; i++) byte[size++] = $i; next }
@@ -47,21 +51,23 @@ function has_record(channel,    value, k) {
 
 # tk is hour x 128 + minute x 2 + half minute, tb counts quarters of an hour.
 function tell_record() {
-    printf "  satellite n %d, day NT %d, time of frame %s:%02d, tb %d min (%s)\n", w["n"], w["NT"],
-        clock(int(w["tk"] / 128), int(w["tk"] / 2) % 64), w["tk"] % 2 * 30,
-        w["tb"] * 15, clock(int(w["tb"] / 4), w["tb"] % 4 * 15)
+    printf "  satellite n %d, day NT %d, tk = %d (%s:%02d), tb = %d (%s)\n", w["n"], w["NT"],
+        w["tk"], clock(int(w["tk"] / 128), int(w["tk"] / 2) % 64), w["tk"] % 2 * 30,
+        w["tb"], clock(int(w["tb"] / 4), w["tb"] % 4 * 15)
     tell_axis("x")
     tell_axis("y")
     tell_axis("z")
-    printf "  tau = %d, delta tau = %d, gamma = %d, E = %d, FT = %d, M = %d\n",
-        w["tau"], w["dtau"], w["gamma"], w["E"], w["FT"], w["M"]
-    printf "  P1 = %d, P2 = %d, P3 = %d, P4 = %d, P = %d, B = %d, l = %d\n",
-        w["P1"], w["P2"], w["P3"], w["P4"], w["P"], w["B"], w["l"]
+    print "  " word("tau", w["tau"], 30, "%.10f s"), word("delta tau", w["dtau"], 30, "%.10f s"), word("gamma", w["gamma"], 40, "%.2e")
+    printf "  E = %d, FT = %d, M = %d, P1 = %d, P2 = %d, P3 = %d, P4 = %d, P = %d, B = %d, l = %d\n",
+        w["E"], w["FT"], w["M"], w["P1"], w["P2"], w["P3"], w["P4"], w["P"], w["B"], w["l"]
 }
 
 function clock(hour, minute) { return sprintf("%02d:%02d", hour, minute) }
 
-function tell_axis(a) { printf "  %s = %9d, velocity %8d, acceleration %3d\n", a, w[a], w["v" a], w["a" a] }
+function tell_axis(a) {
+    printf "  %s = %9d (%11.4f km), velocity %8d (%10.7f km/s), acceleration %3d (%9.2e km/s^2)\n", a, w[a], w[a] / 2 ^ 11,
+        w["v" a], w["v" a] / 2 ^ 20, w["a" a], w["a" a] / 2 ^ 30
+}
 
 # Beside the station's answer stands what decides it: B of the record, C of the book's entry for its n.
 function tell_health(channel,    h) {
@@ -72,28 +78,61 @@ function tell_health(channel,    h) {
     else print "  health: unknown (no record, or no entry for its n)"
 }
 
-function tell_slot(slot,    e, n4) {
+function tell_slot(slot,    e, n4, na) {
     if (split(entry[slot], e, " ") != 4) {
         printf "slot %2d: empty\n", slot
         return
     }
     n4 = int((e[2] - 1) / 1461) + 1
-    printf "slot %2d: day %d (N4 %d, day %d of the four years), carrier H = %2d, %s by the almanac (C = %d)\n",
-        slot, e[2], n4, e[2] - 1461 * (n4 - 1), carrier(slot), judged[2 - good(slot)], good(slot)
+    na = e[2] - 1461 * (n4 - 1)
+    printf "slot %2d: day %d, %s (N4 %d, NA %d), carrier H = %d, %s by the almanac (C = %d)\n",
+        slot, e[2], date(n4, na), n4, na, carrier(e[4]), judged[2 - good(slot)], good(slot)
+    tell_entry(e[3], e[4])
 }
 
-# C, bit 80, is the first of the 72 bits of an entry's even half.
+# C, bit 80, is the first of an entry's even half.
 function good(slot,    e) {
     split(entry[slot], e, " ")
-    return bits(e[3], 1, 1)
+    return even(e[3], 80, 80)
 }
 
-# H, bits 14 to 10, is the end of the odd half; 25 to 31 mean -7 to -1.
-function carrier(slot,    e, h) {
-    split(entry[slot], e, " ")
-    h = bits(e[4], 68, 72)
+# The words of the two halves, Table 4.11.
+function tell_entry(e, o) {
+    print "  " word("tau A", signed(even(e, 72, 63), 10), 18, "%.6f s"),
+        word("lambda", signed(even(e, 62, 42), 21), 20, "%.6f semicircles"),
+        word("delta i", signed(even(e, 41, 24), 18), 20, "%.6f semicircles"), word("epsilon", even(e, 23, 9), 20, "%.6f")
+    print "  " word("omega", signed(odd(o, 80, 65), 16), 15, "%.5f semicircles"), word("t lambda", odd(o, 64, 44), 5, "%.3f s"),
+        word("delta T", signed(odd(o, 43, 22), 22), 9, "%.3f s/orbit"),
+        word("its rate", signed(odd(o, 21, 15), 7), 14, "%.5f s/orbit^2")
+}
+
+# A word of 2^-power a unit, raw and as that.
+function word(name, raw, power, form) { return sprintf("%s = %d (" form ")", name, raw, raw / 2 ^ power) }
+
+# H, bits 14 to 10; 25 to 31 mean -7 to -1.
+function carrier(o,    h) {
+    h = odd(o, 14, 10)
     return h < 25 ? h : h - 32
 }
+
+# NA 1 of N4 1 is 1 January 1996, Moscow time; each four years begin with a first of January.
+function date(n4, day,    year, m) {
+    year = 1996 + 4 * (n4 - 1)
+    for (m = 1; day > in_month(year, m); m = m % 12 + 1) {
+        day -= in_month(year, m)
+        if (m == 12) year++
+    }
+    return day " " month[m] " " year
+}
+
+function in_month(year, m) { return days[m] + (m == 2 && year % 4 == 0 && (year % 100 != 0 || year % 400 == 0)) }
+
+# Sign and magnitude in so many bits.
+function signed(value, width) { return value < 2 ^ (width - 1) ? value : 2 ^ (width - 1) - value }
+
+# A word by its top and its low bit: the even half is bits 80 to 9, the odd half 80 to 10.
+function even(hex, top, low) { return bits(hex, 81 - top, 81 - low) }
+function odd(hex, top, low) { return bits(hex, 82 - top, 82 - low) }
 
 # The number in bits from..to of 18 hex digits; bit 1 is the highest, 72 the lowest.
 function bits(hex, from, to,    digit, value) {
