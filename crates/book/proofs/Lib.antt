@@ -1,6 +1,6 @@
 pub mod Parts
 pub mod Order
-pub mod Good
+pub mod ShownTests
 pub mod Additions
 pub mod Joins
 pub mod DayThenBits

@@ -8,10 +8,10 @@ use native.Mathlib.Omega.{arith}
 use borrow.Author.Tests.{lt-ltb, le-ltb, eq-eqb, ne-eqb, ltb-true, ltb-false, eqb-true, eqb-false}
 use lib.Arith.{lt-of-le-ne}
 use lib.Dec.{eqb, ltb}
-use lib.Pow.{shr-shr, mod-pow-add, high, low as low-part}
+use lib.Pow.{high, low as low-part}
 use Rattle.strings.specs.Pick.{pick}
 use Rattle.strings.specs.Number.{wordOf}
-use Rattle.words.proofs.WordBits.{word-lt}
+use Rattle.strings.proofs.WordOf.{word-lt, word-cut}
 
 -- ---- comparing by a first number, then by the rest
 -- the definition's "below, or equal and the rest is below" is the code's "where they differ, by them; else by the rest"
@@ -66,19 +66,7 @@ module _ (p a b c d : ℕ) (hb : b < p) (hd : d < p) where
           let l = under (lt-of-le-ne (ltb-false a c g) (λ q. eqb-false a c e (sym q))) in
           simp (ne-eqb (a * p + b) (c * p + d) (λ q. omega arith), le-ltb (a * p + b) (c * p + d) (omega arith))
 
--- ---- a word cut in two: the bits above mid, and those from mid down
-pub word-cut : (n top mid low : ℕ) → 1 ≤ low → low ≤ mid + 1 → mid ≤ top
-    → wordOf n top low ≡ wordOf n top (mid + 1) * 2 ^ (mid + 1 - low) + wordOf n mid low
-unfolding wordOf
-word-cut n top mid low h l u =
-    let x = n / 2 ^ (low - 1) in
-    let j = top + 1 - (mid + 1) in
-    let k = mid + 1 - low in
-    let e : (low - 1) + k ≡ mid + 1 - 1 = omega arith in
-    ap (λ (i : ℕ). x % 2 ^ i) (omega arith) ∙ mod-pow-add x j k
-    ∙ ap (λ (y : ℕ). y % 2 ^ j * 2 ^ k + x % 2 ^ k) (shr-shr n (low - 1) k ∙ ap (λ (i : ℕ). n / 2 ^ i) e)
-
--- so its two parts are words
+-- ---- a word cut in two: its two parts are words
 module _ (n top mid low : ℕ) (h : 1 ≤ low) (l : low ≤ mid + 1) (u : mid ≤ top) where
   pub word-high : wordOf n top low / 2 ^ (mid + 1 - low) ≡ wordOf n top (mid + 1)
   word-high = ap (λ (x : ℕ). x / 2 ^ (mid + 1 - low)) (word-cut n top mid low h l u) ∙ high (wordOf n top (mid + 1)) (mid + 1 - low) (word-lt n mid low)

@@ -13,9 +13,12 @@ use Rattle.records.specs.declared.kinds.Kind.the-variants.{Five, Even, Odd}
 use Rattle.book.specs.declared.Entry.{Entry}
 use Rattle.book.specs.declared.Shown.the-variants.{Nothing, At}
 use Rattle.book.specs.Entry.{Three, entryOf}
-use Rattle.book.specs.Shows.{isGood, isShown, fourYears, slotIn, dayOf, threeOf, shownBy}
+use Rattle.words.specs.Good.{isGood}
+use Rattle.book.specs.Shows.{isShown, fourYears, slotIn, dayOf, threeOf, shownBy}
 use Rattle.book.specs.ShownExactly.{SomeEntry, InRange, EntryShown, ShownExactly}
-use Rattle.book.proofs.Good.{both, good-is, shown-is, day-read, slot-read}
+use Rattle.strings.proofs.Below.{both}
+use Rattle.words.proofs.Good.{good-is}
+use Rattle.book.proofs.ShownTests.{shown-is, day-read, slot-read}
 use Rattle.book.proofs.Joins.{shown-fits}
 
 -- ---- a good odd string: "H 0..13, or 25..31"

@@ -2,20 +2,14 @@
 -- Assumes nothing.
 use Prim.Native.Nat.{ℕ, _+_, _-_, _*_}
 use mathlib.Core.Bool.{Bool, _&&_}
-use lib.Dec.{eqb, leb}
+use lib.Dec.{leb}
 use Rattle.strings.specs.Pick.{pick}
 use Rattle.strings.specs.Number.{wordOf}
-use Rattle.records.specs.declared.kinds.Kind.{Kind}
 use Rattle.records.specs.declared.kinds.Kind.the-variants.{Five, Even, Odd}
-use Rattle.layout.specs.Layout.{layout}
-use Rattle.words.specs.Values.{valuesOf, firstBad}
+use Rattle.words.specs.Good.{isGood}
 use Rattle.book.specs.declared.Shown.{Shown}
 use Rattle.book.specs.declared.Shown.the-variants.{Nothing, At}
 use Rattle.book.specs.Entry.{Three, entryOf}
-
--- all words of a string are in range
-unfoldable pub isGood : Kind → ℕ → Bool
-isGood k n = eqb (firstBad (layout k) (valuesOf n (layout k))) 0
 
 -- N4 and NA of string 5, nA of an even string
 abbrev pub fourYears : ℕ → ℕ

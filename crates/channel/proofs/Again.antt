@@ -20,7 +20,7 @@ use Rattle.strings.proofs.Encode.{encoded-once}
 use Rattle.strings.proofs.Flips.{left-encoded}
 use Rattle.words.specs.Calls.{numberIn}
 use Rattle.words.proofs.WordBits.{word-lt}
-use Rattle.book.proofs.Parts.{word-cut}
+use Rattle.strings.proofs.WordOf.{word-cut}
 use Rattle.hearing.specs.Hears.{plainOf, wholeOf, verdictIn}
 use Rattle.hearing.proofs.Hearing.{whole-lt}
 use Rattle.channel.specs.declared.Row.{Row}

@@ -18,8 +18,8 @@ use Rattle.words.specs.Calls.{numberIn}
 use Rattle.layout.specs.Layout.{layout}
 use Rattle.words.specs.Values.{valuesOf, firstBad}
 use Rattle.words.specs.Immediate.{stringAt}
-use Rattle.book.specs.Shows.{isGood}
-use Rattle.book.proofs.Good.{both}
+use Rattle.words.specs.Good.{isGood}
+use Rattle.strings.proofs.Below.{both}
 use Rattle.channel.specs.declared.News.the-variants.{AlreadyHeld, Kept, RecordBuilt, RecordOutOfRange}
 use Rattle.channel.specs.declared.Row.{Row}
 use Rattle.immediate.specs.declared.Immediate.{Immediate}

@@ -19,7 +19,7 @@ use Rattle.strings.specs.Hamming.{ruling}
 use Rattle.strings.specs.Numbers.{refusalPaper, Test, test, firstOf, placeOf, saidBy, answerOf}
 use Rattle.strings.specs.Calls.{checkedPaper, verdictTold}
 use Rattle.words.specs.Calls.{numberIn}
-use Rattle.book.proofs.Good.{both}
+use Rattle.strings.proofs.Below.{both}
 use Rattle.channel.specs.declared.Fate.{Fate}
 use Rattle.channel.specs.declared.Fate.the-variants.{Refused as No, Held as Here, New}
 use Rattle.channel.specs.declared.News.{News}

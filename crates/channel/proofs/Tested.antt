@@ -19,7 +19,7 @@ use Rattle.strings.specs.Calls.{isIdle}
 use Rattle.strings.proofs.Digits.{bit-lt}
 use Rattle.strings.proofs.Shape.{shaped, well-made}
 use Rattle.words.specs.Calls.{numberIn}
-use Rattle.book.proofs.Good.{both}
+use Rattle.strings.proofs.Below.{both}
 use Rattle.hearing.specs.Hears.{plainOf, wholeOf, verdictIn}
 use Rattle.channel.specs.declared.Row.{Row}
 use Rattle.channel.specs.declared.Offered.{Offered}

@@ -15,7 +15,7 @@ use Rattle.strings.specs.Number.{stringBytes}
 use Rattle.strings.specs.Numbers.{firstOf}
 use Rattle.strings.proofs.Value.{string-length}
 use Rattle.words.specs.Calls.{numberIn}
-use Rattle.book.proofs.Good.{both}
+use Rattle.strings.proofs.Below.{both}
 use Rattle.hearing.specs.Hears.{wholeOf}
 use Rattle.hearing.proofs.Hearing.{whole-lt}
 use Rattle.channel.specs.declared.Row.{Row}

@@ -12,7 +12,8 @@ use Rattle.layout.specs.Layout.{layout}
 use Rattle.words.specs.Values.{valuesOf, firstBad}
 use Rattle.book.specs.declared.Book.{Book}
 use Rattle.book.specs.Entry.{Three, meaning, entryOf, blank, greater}
-use Rattle.book.specs.Shows.{isGood, dayOf, isShown, threeOf, shownBy}
+use Rattle.words.specs.Good.{isGood}
+use Rattle.book.specs.Shows.{dayOf, isShown, threeOf, shownBy}
 use Rattle.book.specs.Book.{inSlot, emptyBook, joined, joinedShown}
 use Rattle.channel.specs.declared.Row.{Row}
 use Rattle.tallies.specs.declared.Tallies.{Tallies}

@@ -5,7 +5,7 @@ use Prim.Native.Nat.{ℕ}
 use lib.Dec.{eqb}
 use Rattle.records.specs.declared.kinds.Kind.the-variants.{One, Two, Three, Four}
 use Rattle.words.proofs.Ranges.{reading-fails}
-use Rattle.book.specs.Shows.{isGood}
+use Rattle.words.specs.Good.{isGood}
 use Rattle.immediate.specs.Kept.{fourGood}
 
 -- a string 3 has no word that can be out of range

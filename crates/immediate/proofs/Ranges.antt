@@ -9,7 +9,8 @@ use lib.Dec.{leb, ltb, lit≤}
 use Rattle.strings.specs.Number.{wordOf}
 use Rattle.records.specs.declared.kinds.Kind.the-variants.{One, Two}
 use Rattle.words.specs.Immediate.{stringAt}
-use Rattle.book.proofs.Good.{good-is, both}
+use Rattle.strings.proofs.Below.{both}
+use Rattle.words.proofs.Good.{good-is}
 use Rattle.immediate.specs.Kept.{areGood}
 use Rattle.immediate.specs.Ranges.{InRange, GoodExactly}
 use Rattle.immediate.proofs.Good.{four-good}

@@ -8,7 +8,7 @@ use lib.ListN.{take}
 use Rattle.strings.specs.Pick.{pick}
 use Rattle.records.specs.declared.kinds.Kind.the-variants.{One, Two, Three, Four}
 use Rattle.words.specs.Immediate.{stringAt}
-use Rattle.book.specs.Shows.{isGood}
+use Rattle.words.specs.Good.{isGood}
 use Rattle.immediate.specs.declared.Immediate.{Immediate}
 
 -- "their words are in range"

@@ -5,7 +5,7 @@ ghost use Prim.Native.Nat.{_≤_};
 ghost use lib.ListN.{length, take};
 ghost use Rattle.strings.specs.Number.{numberOf};
 ghost use Rattle.records.specs.declared.kinds.Kind.the-variants.{One, Two};
-ghost use Rattle.book.specs.Shows.{isGood};
+ghost use Rattle.words.specs.Good.{isGood};
 ghost use Rattle.immediate.specs.Kept.{areGood, hasRecord};
 
 // The strings 1 to 4 that the latest immediate record was read from. Where their words are not in

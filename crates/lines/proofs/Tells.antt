@@ -9,7 +9,7 @@ use lib.Dec.{eqb}
 use lib.ListN.{length, getD}
 use lib.Seq.{drop-cons}
 use borrow.Author.Tests.{eqb-true}
-use Rattle.strings.specs.Pick.{pick}
+use Rattle.strings.specs.Pick.{pick, isOneOf}
 use Rattle.strings.specs.declared.Refusal.{Refusal}
 use Rattle.strings.specs.declared.Refusal.the-variants.{Channel, Shape, Damaged, Idle, Number, Early, Stale, OffBeat, Conflict, Range, Place, Room, Nothing, Slot}
 use Rattle.strings.specs.declared.Verdict.{Verdict}
@@ -29,7 +29,6 @@ use Rattle.channel.proofs.HeldFrame.{first-said}
 use Rattle.station.specs.declared.Station.{Station}
 use Rattle.station.specs.declared.Stepped.{Stepped}
 use Rattle.station.specs.Station.{heldAt, isNoChannel, stationTests, toldIn, OffersTo}
-use Rattle.station.specs.History.{isOneOf}
 use Rattle.lines.specs.declared.Line.{Line}
 use Rattle.lines.specs.declared.Listed.{Listed}
 use Rattle.seen.specs.declared.seeing.Seen.{Seen}

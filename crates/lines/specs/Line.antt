@@ -4,7 +4,7 @@ use Prim.Native.Nat.{ℕ}
 use mathlib.Core.List.{List, [], _∷_}
 use mathlib.Core.Path.{_≡_}
 use lib.ListN.{getD, take, drop}
-use Rattle.strings.specs.Pick.{pick}
+use Rattle.strings.specs.Pick.{pick, isOneOf}
 use Rattle.strings.specs.Number.{valueOf}
 use Rattle.strings.specs.Numbers.{firstOf}
 use Rattle.words.specs.Calls.{numberIn}
@@ -12,7 +12,6 @@ use Rattle.hearing.specs.Hears.{wholeOf, verdictIn}
 use Rattle.seen.specs.Seen.{bitIn}
 use Rattle.station.specs.declared.Station.{Station}
 use Rattle.station.specs.Station.{stationTests, stationAfter}
-use Rattle.station.specs.History.{isOneOf}
 use Rattle.lines.specs.declared.Line.{Line}
 use Rattle.lines.specs.declared.Listed.{Listed}
 

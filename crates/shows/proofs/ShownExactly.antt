@@ -11,13 +11,12 @@ use lib.Dec.{T, eqb, leb}
 use lib.ListN.{getD}
 use Rattle.strings.specs.Pick.{pick}
 use Rattle.strings.specs.Number.{wordOf}
-use Rattle.strings.proofs.Below.{below-at}
+use Rattle.strings.proofs.Below.{below-at, both}
 use Rattle.words.proofs.WordBits.{word-lt}
 use Rattle.book.specs.declared.Entry.{Entry}
 use Rattle.book.specs.declared.Shown.the-variants.{Nothing, At}
 use Rattle.book.specs.Shows.{shownBy}
 use Rattle.book.specs.ShownExactly.{SomeEntry}
-use Rattle.book.proofs.Good.{both}
 use Rattle.book.proofs.ShownExactly.{shown-exactly}
 use Rattle.channel.specs.Frame.{Frame}
 use Rattle.shows.specs.Shows.{frameNumber, isPair, hasPair, shownAt, showsOf}

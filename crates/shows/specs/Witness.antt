@@ -10,7 +10,8 @@ use Rattle.layout.specs.Layout.{layout}
 use Rattle.words.specs.Values.{valuesOf, firstBad}
 use Rattle.book.specs.declared.Shown.the-variants.{Nothing, At}
 use Rattle.book.specs.Entry.{entryOf}
-use Rattle.book.specs.Shows.{isGood, dayOf, isShown, threeOf, shownBy}
+use Rattle.words.specs.Good.{isGood}
+use Rattle.book.specs.Shows.{dayOf, isShown, threeOf, shownBy}
 use Rattle.channel.specs.Frame.{Frame}
 use Rattle.channel.specs.History.{Call, heldAfter}
 use Rattle.channel.specs.History.Call.{Offer}

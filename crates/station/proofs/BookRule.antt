@@ -9,7 +9,7 @@ use Prim.Native.Nat.{ℕ, _+_, _≤_}
 use native.Mathlib.Omega.{arith}
 use borrow.Author.Tests.{eq-eqb, eqb-true}
 use lib.Dec.{eqb}
-use Rattle.strings.specs.Pick.{pick}
+use Rattle.strings.specs.Pick.{pick, isOneOf}
 use Rattle.strings.specs.Numbers.{firstOf}
 use Rattle.book.specs.declared.Entry.{Entry}
 use Rattle.book.specs.declared.Book.{Book}
@@ -31,7 +31,7 @@ use Rattle.station.specs.declared.Station.{Station}
 use Rattle.station.specs.declared.Stepped.{Stepped}
 use Rattle.station.specs.declared.Emptied.{Emptied}
 use Rattle.station.specs.Station.{freshStation, rowAt, isNoChannel, bookAfter, OffersTo, Resets}
-use Rattle.station.specs.History.{Call, Offer, Reset, channelOf, itself, callsOn, Part, whole, earlier, pairs, isOneOf, ShownIn, Greatest, Runs, fresh, offering, resetting}
+use Rattle.station.specs.History.{Call, Offer, Reset, channelOf, itself, callsOn, Part, whole, earlier, pairs, ShownIn, Greatest, Runs, fresh, offering, resetting}
 use Rattle.station.proofs.ChannelRuns.{in-step, calls-same, calls-other, after-none, after-some, reset-none, reset-some}
 use Rattle.station.proofs.Holding.{Dated, Holding, holding-same, InShows, Right, AllRight, brought-full, holding-brought}
 

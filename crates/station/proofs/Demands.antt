@@ -15,7 +15,7 @@ use Rattle.strings.specs.Number.{wordOf}
 use Rattle.words.specs.Immediate.{stringAt}
 use Rattle.book.specs.Entry.{meaning}
 use Rattle.book.specs.Book.{inSlot}
-use Rattle.book.proofs.Good.{both}
+use Rattle.strings.proofs.Below.{both}
 use Rattle.book.proofs.Order.{below-same}
 use Rattle.tallies.specs.declared.Tallies.{Tallies}
 use Rattle.channel.specs.Frame.{isHere}

@@ -3,11 +3,11 @@
 -- any channel.
 -- Assumes nothing.
 use Prim.Native.Nat.{ℕ}
-use mathlib.Core.Bool.{Bool, true, false, _||_}
+use mathlib.Core.Bool.{true, false}
 use mathlib.Core.List.{List, [], _∷_}
 use mathlib.Core.Path.{_≡_}
 use lib.Dec.{eqb}
-use Rattle.strings.specs.Pick.{pick}
+use Rattle.strings.specs.Pick.{pick, isOneOf}
 use Rattle.book.specs.declared.Shown.the-variants.{At}
 use Rattle.book.specs.Entry.{Three, isBelow, entryOf}
 use Rattle.shows.specs.Shows.{shownAt}
@@ -52,11 +52,6 @@ pub data Part : List OnChannel → List OnChannel → Type 0 where
 -- the first strings of the pairs
 abbrev pub pairs : List ℕ
 pairs = 6 ∷ 8 ∷ 10 ∷ 12 ∷ 14 ∷ []
-
--- a number is one of these
-abbrev pub isOneOf : List ℕ → ℕ → Bool
-isOneOf [] p = false
-isOneOf (q ∷ qs) p = eqb p q || isOneOf qs p
 
 -- an entry shown for a slot: at a moment, by a channel, as strings 5, p and p+1 of the one frame that this channel then held
 pub record ShownIn (cs : List Call) (slot : ℕ) (t : Three) : Type 0 where

@@ -28,3 +28,15 @@ word-split n top low l u =
     ap (λ (y : ℕ). y % 2) (shr-shr n (low - 1) (top - low) ∙ ap (λ (i : ℕ). n / 2 ^ i) (omega arith)) in
     let m : x % 2 ^ (top - low) ≡ x % 2 ^ (top - 1 + 1 - low) = ap (λ (i : ℕ). x % 2 ^ i) (omega arith) in
     ap (λ (i : ℕ). x % 2 ^ i) (omega arith) ∙ mod-pow-add x 1 (top - low) ∙ ap₂ (λ (i j : ℕ). i * 2 ^ (top - low) + j) b m
+
+-- a word cut in two: the bits above mid, and those from mid down
+pub word-cut : (n top mid low : ℕ) → 1 ≤ low → low ≤ mid + 1 → mid ≤ top
+    → wordOf n top low ≡ wordOf n top (mid + 1) * 2 ^ (mid + 1 - low) + wordOf n mid low
+unfolding wordOf
+word-cut n top mid low h l u =
+    let x = n / 2 ^ (low - 1) in
+    let j = top + 1 - (mid + 1) in
+    let k = mid + 1 - low in
+    let e : (low - 1) + k ≡ mid + 1 - 1 = omega arith in
+    ap (λ (i : ℕ). x % 2 ^ i) (omega arith) ∙ mod-pow-add x j k
+    ∙ ap (λ (y : ℕ). y % 2 ^ j * 2 ^ k + x % 2 ^ k) (shr-shr n (low - 1) k ∙ ap (λ (i : ℕ). n / 2 ^ i) e)

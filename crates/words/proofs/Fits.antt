@@ -14,7 +14,7 @@ use lib.ListN.{length, getD}
 use lib.Pow.{pow-add, pow-mono, pow-pos}
 use lib.Signed.{leZ, nonNeg, pos-natAbs}
 use Rattle.strings.specs.Pick.{pick}
-use Rattle.strings.proofs.Below.{and-left, and-right}
+use Rattle.strings.proofs.Below.{and-left, and-right, both}
 use Rattle.layout.specs.declared.table.Form.{Form}
 use Rattle.layout.specs.declared.table.Form.the-variants.{Plain, Signed, Time, Interval, Day, Slot, Carrier}
 use Rattle.layout.specs.declared.table.Word.{Word}
@@ -26,10 +26,6 @@ use Rattle.layout.proofs.EveryKind.{kinds, every, every-kind}
 use Rattle.layout.proofs.Rows.{layout-long}
 
 -- ---- the laws of one word, by a test that is computed for each word of the table
-pub and-both : (a b : Bool) → (a && b) ≡ true → (a ≡ true) × (b ≡ true)
-and-both true b e = (refl, e)
-and-both false b e = absurd (true≢false (sym e))
-
 pub is-true : (b : Bool) → T b → b ≡ true
 is-true true t = refl
 is-true false t = absurd t
@@ -97,7 +93,7 @@ trans-leZ a b c p q = leZ-trans a b c (subst T (sym p) tt) (is-true (leZ b c) q)
 
 module _ (w : Word) where
   between : (z : ℤ) → inRange w z ≡ true → (leZ (leastOf w) z ≡ true) × (leZ z (mostOf w) ≡ true)
-  between z e = and-both (leZ (leastOf w) z) (leZ z (mostOf w)) (and-both (leZ (leastOf w) z && leZ z (mostOf w)) _ e .0)
+  between z e = both (leZ (leastOf w) z) (leZ z (mostOf w)) (both (leZ (leastOf w) z && leZ z (mostOf w)) _ e .0)
 
   pub signed-near : T (signedTest w) → (z : ℤ) → inRange w z ≡ true → natAbs z < halfOf w
   signed-near t z e =

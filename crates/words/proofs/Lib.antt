@@ -11,3 +11,4 @@ pub mod WriteAnswers
 pub mod RoundTrips
 pub mod Ranges
 pub mod Names
+pub mod Good

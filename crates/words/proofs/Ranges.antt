@@ -20,7 +20,7 @@ use Rattle.strings.specs.declared.Written.the-variants.{Refused as NotWritten}
 use Rattle.strings.specs.Number.{numberOf, misshapen, wordOf}
 use Rattle.strings.specs.Hamming.{ruling, isDamaged, mended}
 use Rattle.strings.specs.Calls.{noRoom, isIdle}
-use Rattle.strings.proofs.Below.{and-left, and-right, below, below-at, unfit}
+use Rattle.strings.proofs.Below.{and-left, and-right, below, below-at, unfit, both}
 use Rattle.layout.specs.declared.table.Form.{Form}
 use Rattle.layout.specs.declared.table.Form.the-variants.{Plain, Signed, Time, Interval, Day, Slot, Carrier}
 use Rattle.layout.specs.declared.table.Word.{Word}
@@ -40,7 +40,7 @@ use Rattle.layout.proofs.EveryKind.{kinds, every, every-kind}
 use Rattle.words.proofs.Forms.{and-all}
 use Rattle.words.proofs.WordBits.{word-lt}
 use Rattle.layout.proofs.Rows.{layout-long}
-use Rattle.words.proofs.Fits.{and-both, is-true, sound-at, range-at, layout-laid}
+use Rattle.words.proofs.Fits.{is-true, sound-at, range-at, layout-laid}
 use Rattle.words.proofs.Trip.{kind-values-long}
 use Rattle.records.proofs.RecordLists.{list-long}
 use Rattle.words.proofs.RoundTrips.{read-numbers, write-numbers}
@@ -296,8 +296,8 @@ time-in t h m = rw (le-leb 0 t (omega arith), le-leb t 4095 (omega arith), lt-lt
 time-of : (z : ℤ) → inRange (word Time 76 65) z ≡ true → TimeOfDay z
 time-of (negsuc n) e = absurd (true≢false (sym e))
 time-of (pos t) e =
-    let a = and-both (leb 0 t && leb t 4095) (isTime t) e in
-    let c = and-both (ltb (t / 128) 24) (ltb (t / 2 % 64) 60) (a .1) in
+    let a = both (leb 0 t && leb t 4095) (isTime t) e in
+    let c = both (ltb (t / 128) 24) (ltb (t / 2 % 64) 60) (a .1) in
     record {
       hours = t / 128;
       minutes = t / 2 % 64;

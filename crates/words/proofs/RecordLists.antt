@@ -7,6 +7,7 @@ use native.Mathlib.Nat.{mod-one}
 use native.Mathlib.Omega.{arith}
 use borrow.Author.Tests.{eqb-true, leb-true}
 use lib.Dec.{eqb, leb, lit≤}
+use Rattle.strings.proofs.Below.{both}
 use Rattle.strings.specs.Number.{wordOf}
 use Rattle.records.specs.declared.kinds.Kind.{Kind}
 use Rattle.records.specs.declared.kinds.Kind.the-variants.{One, Two, Three, Four, Five, Even, Odd, Fourteen}
@@ -16,7 +17,7 @@ use Rattle.words.specs.Values.{valuesOf, firstBad, dataOf}
 use Rattle.records.specs.Records.{kindOf, listOf, recordOf}
 use Rattle.records.proofs.RecordLists.{list-long}
 use Rattle.layout.proofs.EveryKind.{kindAt, kind-back}
-use Rattle.words.proofs.Fits.{and-both, kind-data-lt}
+use Rattle.words.proofs.Fits.{kind-data-lt}
 
 pub kind-same : (k l : Kind) → kindNumber k ≡ kindNumber l → k ≡ l
 kind-same k l e = sym (kind-back k) ∙ ap kindAt e ∙ kind-back l
@@ -39,8 +40,8 @@ one-number m c e l u = let q = eqb-true m c e in (omega arith, omega arith)
 
 half-number : (m l u : ℕ) (b : Bool) → (leb l m && (leb m u && b)) ≡ true → 1 ≤ l → u ≤ 15 → (1 ≤ m) × (m ≤ 15)
 half-number m l u b e h k =
-    let p = and-both (leb l m) _ e in
-    let q = and-both (leb m u) _ (p .1) in
+    let p = both (leb l m) _ e in
+    let q = both (leb m u) _ (p .1) in
     (omega (arith, leb-true l m (p .0)), omega (arith, leb-true m u (q .0)))
 
 pub of-kind : (k : Kind) (m : ℕ) → ofKind k m ≡ true → (1 ≤ m) × (m ≤ 15)

@@ -30,7 +30,7 @@ use Rattle.strings.proofs.Digits.{flip-lt, flip-undo, bits-same, three}
 use Rattle.strings.proofs.WordOf.{bit-in-word, word-split}
 use Rattle.strings.proofs.Value.{string-number, string-bytes}
 use Rattle.strings.proofs.Shape.{string-shaped, has-room, shaped}
-use Rattle.strings.proofs.Below.{unfit}
+use Rattle.strings.proofs.Below.{unfit, both}
 use Rattle.strings.proofs.Answer.{goes-on, takes, same-answer, refusal-same, written-same, exactly, taken-made, refused-left}
 use Rattle.strings.proofs.Encode.{encode-encoded, encode-stays, encode-lt, encoded-once}
 use Rattle.strings.proofs.CheckRule.{encoded-clean}
@@ -56,7 +56,7 @@ use Rattle.layout.proofs.Rows.{layout-long, placed-at}
 use Rattle.layout.proofs.ReservedBits.{reserved-free}
 use Rattle.words.proofs.Loops.{values-long}
 use Rattle.words.proofs.Sign.{never-minus-zero}
-use Rattle.words.proofs.Fits.{and-both, halfOf, formTest, form-test, test-at, signed-near, range-at, data-lt, sound-at, layout-laid, kind-fit, kind-data-lt}
+use Rattle.words.proofs.Fits.{halfOf, formTest, form-test, test-at, signed-near, range-at, data-lt, sound-at, layout-laid, kind-fit, kind-data-lt}
 use Rattle.words.proofs.Trip.{kind-values, kind-values-same, data-values, read-fit, bit-same, word-same, word-data, code-read, gap-data}
 
 -- ---- a reading is known by its numbers and its words
@@ -370,7 +370,7 @@ record InWord (ws : List Word) (i : ℕ) : Type 0 where
 in-word-by : (w : Word) (ws : List Word) (i : ℕ) (b : Bool) → (leb (w .low) i && leb i (w .top)) ≡ b → (inWords ws i ≡ true → InWord ws i)
     → (b || inWords ws i) ≡ true → InWord (w ∷ ws) i
 in-word-by w ws i true q ih e =
-    let p = and-both (leb (w .low) i) (leb i (w .top)) q in
+    let p = both (leb (w .low) i) (leb i (w .top)) q in
     record { index = 0; there = zero-lt-suc (length ws); from = leb-true (w .low) i (p .0); upto = leb-true i (w .top) (p .1) }
 in-word-by w ws i false q ih e = let o = ih e in record { index = suc (o .index); there = suc-le-suc (o .there); from = o .from; upto = o .upto }
 

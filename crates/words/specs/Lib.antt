@@ -1,5 +1,6 @@
 pub mod Signed
 pub mod Values
+pub mod Good
 pub mod Immediate
 pub mod Calls
 pub mod Orders

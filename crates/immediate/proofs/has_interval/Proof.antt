@@ -6,7 +6,7 @@ use borrow.Author.Tests.{lt-leb, le-leb}
 use lib.Dec.{lit≤}
 use Rattle.strings.specs.Number.{numberOf, wordOf}
 use Rattle.records.specs.declared.kinds.Kind.the-variants.{Two}
-use Rattle.book.proofs.Good.{good-is}
+use Rattle.words.proofs.Good.{good-is}
 use Rattle.immediate.proofs.has_interval.Statement.{statement}
 use Rattle.immediate.proofs.has_interval.Tie as tie
 

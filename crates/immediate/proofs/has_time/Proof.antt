@@ -5,7 +5,7 @@ use borrow.Author.Tests.{lt-ltb, le-ltb}
 use lib.Dec.{lit≤}
 use Rattle.strings.specs.Number.{numberOf}
 use Rattle.records.specs.declared.kinds.Kind.the-variants.{One}
-use Rattle.book.proofs.Good.{good-is}
+use Rattle.words.proofs.Good.{good-is}
 use Rattle.words.proofs.Ranges.{hour, minute}
 use Rattle.immediate.proofs.has_time.Statement.{statement}
 use Rattle.immediate.proofs.has_time.Tie as tie

@@ -7,8 +7,9 @@ use lib.Dec.{leb}
 use Rattle.strings.specs.Number.{numberOf}
 use Rattle.records.specs.declared.kinds.Kind.the-variants.{Five, Even, Odd}
 use Rattle.words.proofs.WordBits.{word-lt}
-use Rattle.book.specs.Shows.{isGood, fourYears, shownBy}
-use Rattle.book.proofs.Good.{shown-is, day-read}
+use Rattle.words.specs.Good.{isGood}
+use Rattle.book.specs.Shows.{fourYears, shownBy}
+use Rattle.book.proofs.ShownTests.{shown-is, day-read}
 use borrow.Author.Needs.{needs}
 use Rattle.book.proofs.showing.shown_by.Statement.{statement}
 use Rattle.book.proofs.showing.shown_by.Tie as tie

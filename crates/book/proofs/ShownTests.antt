@@ -1,33 +1,16 @@
--- All words of a string are in range: said of its bits, by the reader's law `reading-fails`.
+-- What the tests of a shown entry say.
 -- Assumes nothing.
-use mathlib.Core.Path.{_≡_, refl, sym, ap, _∙_}
-use mathlib.Core.Bool.{Bool, true, false, _&&_, false≢true}
+use mathlib.Core.Path.{_≡_, refl, sym, _∙_}
+use mathlib.Core.Bool.{Bool, true, false, _&&_}
 use Prim.Native.Nat.{ℕ, _≤_}
-use native.Mathlib.Omega.{arith}
-use borrow.Author.Tests.{ne-eqb, leb-true}
-use lib.Dec.{eqb, leb, lit≤}
-use Rattle.strings.specs.Pick.{pick}
-use Rattle.records.specs.declared.kinds.Kind.{Kind}
-use Rattle.words.specs.Ranges.{readable, mayFail}
-use Rattle.words.proofs.Ranges.{reading-fails}
+use borrow.Author.Tests.{leb-true}
+use lib.Dec.{leb, lit≤}
+use Rattle.strings.proofs.Below.{both}
+use Rattle.words.specs.Good.{isGood}
+use Rattle.words.proofs.Good.{good-is}
 use Rattle.records.specs.declared.kinds.Kind.the-variants.{Five, Even, Odd}
-use Rattle.book.specs.Shows.{isGood, isShown, fourYears, dayInFour, slotIn}
+use Rattle.book.specs.Shows.{isShown, fourYears, dayInFour, slotIn}
 
--- of a kind that has a word that can be out of range
-pub good-is : (k : Kind) (n : ℕ) → 1 ≤ mayFail k → isGood k n ≡ readable n k
-unfolding isGood
-good-is k n h = ap (λ (x : ℕ). eqb x 0) (reading-fails n k) ∙ by (readable n k)
-  where
-    by : (b : Bool) → eqb (pick b 0 (mayFail k)) 0 ≡ b
-    by true = refl
-    by false = ne-eqb (mayFail k) 0 (λ e. omega arith)
-
--- ---- two tests
-pub both : (a b : Bool) → (a && b) ≡ true → (a ≡ true) × (b ≡ true)
-both true b e = (refl, e)
-both false b e = absurd (false≢true e)
-
--- ---- what the tests of a shown entry say
 -- string 5 is read first, then the halves
 pub shown-is : (five even odd : ℕ) → isShown five even odd ≡ ((isGood Five five && leb 1 (fourYears five)) && (isGood Even even && isGood Odd odd))
 unfolding isShown
