@@ -14,7 +14,7 @@ use Rattle.words.specs.Calls.{readingPaper}
 use Rattle.words.proofs.RoundTrips.{read-once, write-once}
 use Rattle.records.specs.Records.{recordOf}
 use Rattle.told.specs.Told.{packed}
-use Rattle.measured.specs.Parts.{TellsRelative, TellsCheck, kindBy, leftBy, TellsRead, TellsWrite}
+use Rattle.measured.specs.Parts.{TellsRelative, TellsCheck, kindBy, wordsLeft, TellsRead, TellsWrite}
 
 -- ---- a call that answers the same is told the same
 written-once : {r q : ℕ} (w v : Written) → w ≡ v → r ≡ packed (writtenPaper w) → q ≡ packed (writtenPaper v) → r ≡ q
@@ -35,7 +35,7 @@ module _ (s : List ℕ) (kind : ℕ) (out : List ℤ) (r q : ℕ) (out′ out″
   pub read-tells-once : TellsRead s kind out r out′ → TellsRead s kind out q out″ → (r ≡ q) × (out′ ≡ out″)
   read-tells-once a b =
       let e = read-once s (kindBy kind) (a .call) (b .call) (a .made) (b .made) in
-      (a .answer ∙ ap (λ (x : Reading). packed (readingPaper x)) e ∙ sym (b .answer), a .words ∙ ap (λ (x : Reading). leftBy x out) e ∙ sym (b .words))
+      (a .answer ∙ ap (λ (x : Reading). packed (readingPaper x)) e ∙ sym (b .answer), a .words ∙ ap (λ (x : Reading). wordsLeft x out) e ∙ sym (b .words))
 
 module _ (m kind : ℕ) (v : List ℤ) (out : List ℕ) (r q : ℕ) (out′ out″ : List ℕ) where
   pub write-tells-once : TellsWrite m kind v out r out′ → TellsWrite m kind v out q out″ → (r ≡ q) × (out′ ≡ out″)

@@ -14,7 +14,7 @@ use Rattle.records.specs.Records.{recordOf}
 use Rattle.words.specs.declared.reading.Reading.{Reading}
 use Rattle.words.specs.Calls.{readingPaper, Reads, Writes}
 use Rattle.told.specs.Told.{packed}
-use Rattle.measured.specs.Parts.{kindBy, leftBy, TellsRead, TellsWrite}
+use Rattle.measured.specs.Parts.{kindBy, wordsLeft, TellsRead, TellsWrite}
 
 -- a number that is none of 1 to 7
 pub any-other : (n : ℕ) → (n ≡ 1 → ⊥) → (n ≡ 2 → ⊥) → (n ≡ 3 → ⊥) → (n ≡ 4 → ⊥) → (n ≡ 5 → ⊥) → (n ≡ 6 → ⊥) → (n ≡ 7 → ⊥) → Fourteen ≡ kindBy n
@@ -30,7 +30,7 @@ any-other (suc (suc (suc (suc (suc (suc (suc (suc n)))))))) a b c d e f g = refl
 
 -- a call of the reader that answers y
 pub tells-read : {s : List ℕ} {kind r : ℕ} {out out′ : List ℤ} {k : Kind} {x y : Reading} → k ≡ kindBy kind → Reads s k x → x ≡ y
-    → r ≡ packed (readingPaper y) → out′ ≡ leftBy y out → TellsRead s kind out r out′
+    → r ≡ packed (readingPaper y) → out′ ≡ wordsLeft y out → TellsRead s kind out r out′
 tells-read {s = s} {kind = kind} {out = out} {k = k} {x = x} {y = y} e a f p w =
     record {
       call = y;

@@ -34,15 +34,15 @@ abbrev pub kindBy : ℕ → Kind
 kindBy n = getD (Fourteen ∷ One ∷ Two ∷ Three ∷ Four ∷ Five ∷ Even ∷ Odd ∷ []) n Fourteen
 
 -- ---- the words of a string. A refusal leaves the eight places as they were
-unfoldable pub leftBy : Reading → List ℤ → List ℤ
-leftBy (Read m r) out = listOf r
-leftBy (Refused q) out = out
+unfoldable pub wordsLeft : Reading → List ℤ → List ℤ
+wordsLeft (Read m r) out = listOf r
+wordsLeft (Refused q) out = out
 
 pub record TellsRead (s : List ℕ) (kind : ℕ) (out : List ℤ) (r : ℕ) (out′ : List ℤ) : Type 0 where
   pub call : Reading
   pub made : Reads s (kindBy kind) call
   pub answer : r ≡ packed (readingPaper call)
-  pub words : out′ ≡ leftBy call out
+  pub words : out′ ≡ wordsLeft call out
 
 -- ---- the string of m and of the words of a kind
 pub record TellsWrite (m kind : ℕ) (v : List ℤ) (out : List ℕ) (r : ℕ) (out′ : List ℕ) : Type 0 where

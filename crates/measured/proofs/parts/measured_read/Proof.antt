@@ -4,7 +4,7 @@ use mathlib.Core.List.{[], _∷_}
 use Prim.Native.Nat.{ℕ}
 use Rattle.layout.specs.Layout.{kindNumber}
 use Rattle.told.specs.Told.{packed}
-use Rattle.measured.specs.Parts.{leftBy}
+use Rattle.measured.specs.Parts.{wordsLeft}
 use Rattle.measured.proofs.Strings.{tells-read}
 use borrow.Author.Needs.{needs}
 use Rattle.measured.proofs.parts.measured_read.Statement.{statement}
@@ -41,13 +41,13 @@ read-told-requires : tie.Need-read-told-requires
 read-told-requires c κs = search needs
 
 returns : tie.Need-returns
-unfolding leftBy
+unfolding wordsLeft
 returns c =
     let r = c .before .before .before .before in
     tells-read (r .before .kind-by .ensures) (r .read-words .ensures) (c .before .before .read .given .1) (c .refusal-told .ensures) refl
 
 returns-2 : tie.Need-returns-2
-unfolding leftBy
+unfolding wordsLeft
 returns-2 c =
     let l = c .before .before .before in
     let x = l .before .before in
