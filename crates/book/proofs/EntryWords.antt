@@ -20,7 +20,7 @@ use Rattle.book.specs.declared.Shown.the-variants.{At}
 use Rattle.book.specs.Entry.{Three, meaning, evenWords, oddWords}
 use Rattle.book.specs.Shows.{shownBy}
 use Rattle.book.specs.EntryWords.{signedIn, EvenBits, OddBits, EveryEntrysWords}
-use Rattle.book.proofs.Parts.{word-cut}
+use Rattle.strings.proofs.WordOf.{word-cut}
 use Rattle.book.proofs.ShownExactly.{shown-exactly}
 
 -- ---- a word within the bits from 80 down to `last`, read where they stand
