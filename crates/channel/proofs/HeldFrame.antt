@@ -3,7 +3,7 @@
 -- Assumes nothing.
 use mathlib.Core.Path.{_≡_, refl, sym, ap, subst, _∙_}
 use mathlib.Core.Bool.{Bool, true, false}
-use mathlib.Core.List.{List, _∷_}
+use mathlib.Core.List.{List}
 use Prim.Native.Nat.{ℕ, zero, suc, _^_, _≤_, _<_}
 use native.Mathlib.Omega.{arith}
 use borrow.Author.Tests.{eqb-true, eqb-false}
@@ -12,41 +12,31 @@ use lib.Dec.{eqb}
 use lib.ListN.{length, getD, drop, length-replicate}
 use lib.Seq.{length-sets}
 use Rattle.strings.specs.Pick.{pick}
-use Rattle.strings.specs.Number.{numberOf, misshapen, stringBytes}
-use Rattle.strings.specs.Hamming.{ruling, isDamaged}
-use Rattle.strings.specs.Numbers.{Test, test, firstOf, placeOf, saidBy, answerOf}
-use Rattle.strings.specs.Calls.{isIdle}
+use Rattle.strings.specs.Number.{stringBytes}
+use Rattle.strings.specs.Numbers.{Test, firstOf, placeOf, saidBy, answerOf}
 use Rattle.strings.proofs.Answer.{refusal-known}
+use Rattle.strings.proofs.Tests.{past-first}
 use Rattle.words.specs.Calls.{numberIn}
 use Rattle.channel.specs.declared.Row.{Row}
 use Rattle.channel.specs.declared.Offered.{Offered}
 use Rattle.channel.specs.declared.Answer.{Answer}
 use Rattle.channel.specs.declared.Answer.the-variants.{Taken as TAKEN, Refused as REFUSED}
 use Rattle.tallies.specs.Tallies.Outcome.{Refused, Taken}
-use Rattle.channel.specs.Frame.{Frame, withString, startOf, isOfFrame, isHere, frameFor, afterString}
+use Rattle.channel.specs.Frame.{Frame, withString, startOf, isOfFrame, isHere, frameFor, afterString, placeTests}
 use Rattle.channel.specs.Row.{Held, frameIn, heldOf, frameOf, emptyRow, newFrame, heldFor, stored, heldWith, counted}
-use Rattle.hearing.specs.Hears.{plainOf, wholeOf, verdictIn}
+use Rattle.hearing.specs.Hears.{wholeOf, verdictIn}
 use Rattle.channel.specs.Offers.{answerPaper, isTaken, OnlyCounted, takenRow, offerTests, Offers, offeredRow}
 use Rattle.channel.specs.History.{Call, frameAfter, heldAfter, saidTo, Runs, fresh, offering, resetting}
 use Rattle.channel.proofs.Frames.{stored-frame, empty-frame, held-for}
-use Rattle.hearing.proofs.Hearing.{whole-lt}
+use Rattle.hearing.proofs.Hearing.{whole-lt, heard-first}
 
 -- ---- the string of an offer
--- where none of the tests fits, the fourth does not
-past-number : (a b c d : Bool) (ts : List Test) → firstOf (test 2 a ∷ test 3 b ∷ test 4 c ∷ test 5 d ∷ ts) ≡ 0 → d ≡ false
-past-number true b c d ts e = let z : _≡_ {A = ℕ} 2 0 = e in absurd (omega arith)
-past-number false true c d ts e = let z : _≡_ {A = ℕ} 3 0 = e in absurd (omega arith)
-past-number false false true d ts e = let z : _≡_ {A = ℕ} 4 0 = e in absurd (omega arith)
-past-number false false false true ts e = let z : _≡_ {A = ℕ} 5 0 = e in absurd (omega arith)
-past-number false false false false ts e = refl
-
 -- a taken string has a number
 pub taken-numbered : (f : Frame) (epoch : ℕ) (s : List ℕ) → firstOf (offerTests f epoch s) ≡ 0 → 1 ≤ numberIn (wholeOf s)
 taken-numbered f epoch s e =
     let n = numberIn (wholeOf s) in
-    let z : n ≡ 0 → ⊥ =
-    eqb-false n 0 (past-number (misshapen s) (isDamaged (ruling (plainOf s))) (isIdle (wholeOf s)) (eqb n 0) (drop 4 (offerTests f epoch s)) e)
-    in
+    let ts = placeTests f epoch (wholeOf s) in
+    let z : n ≡ 0 → ⊥ = eqb-false n 0 (past-first 4 (eqb n 0) (drop 1 ts) (heard-first s ts e .1 .1) .0) in
     lt-of-le-ne (omega arith) (λ q. z (sym q))
 
 -- ---- what a taken string leaves

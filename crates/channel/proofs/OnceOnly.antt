@@ -12,6 +12,7 @@ use lib.ListN.{getD}
 use Rattle.strings.specs.Pick.{pick}
 use Rattle.strings.specs.declared.Verdict.{Verdict}
 use Rattle.strings.specs.Numbers.{Test, Exactly, leftBy, firstOf, placeOf, saidBy}
+use Rattle.strings.specs.Calls.{soundTests}
 use Rattle.strings.proofs.Answer.{exactly}
 use Rattle.channel.specs.declared.News.{News}
 use Rattle.channel.specs.declared.News.the-variants.{AlreadyHeld, Kept, RecordBuilt, RecordOutOfRange}
@@ -37,7 +38,7 @@ offers-once row epoch s r q a b =
 
 -- ---- "The first that fits is given, and given only then"
 pub offers-exactly : (row : Row) (epoch : ℕ) (s : List ℕ) (r : Offered) → Offers row epoch s r → Exactly (offerTests (frameOf row) epoch s) (answerPaper (r .answer))
-unfolding Offers
+unfolding Offers soundTests
 offers-exactly row epoch s r a =
     exactly tt (record { answer = a .answer; output = refl {a = leftBy (firstOf (offerTests (frameOf row) epoch s)) [] []} })
 

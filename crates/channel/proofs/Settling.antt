@@ -16,7 +16,7 @@ use Rattle.strings.specs.declared.Checked.{Checked}
 use Rattle.strings.specs.declared.Checked.the-variants.{Taken as Sound, Refused as NotTaken}
 use Rattle.strings.specs.Number.{numberOf, misshapen}
 use Rattle.strings.specs.Hamming.{ruling}
-use Rattle.strings.specs.Numbers.{refusalPaper, Test, test, firstOf, placeOf, saidBy, answerOf}
+use Rattle.strings.specs.Numbers.{refusalPaper, Test, firstOf, placeOf, saidBy, answerOf}
 use Rattle.strings.specs.Calls.{checkedPaper, verdictTold}
 use Rattle.words.specs.Calls.{numberIn}
 use Rattle.strings.proofs.Below.{both}
@@ -37,8 +37,10 @@ use Rattle.hearing.specs.Hears.{plainOf, wholeOf, hearTests, Hears, verdictIn}
 use Rattle.channel.specs.Offers.{answerPaper, toldAs, toldOf, Settles, Places, StoresIn, fatePaper, fateTold, FateBy, offerTests, OffersApart, takenRow, Offers, outcomeOf, tellsRecord}
 use Rattle.channel.proofs.Frames.{held-for}
 use Rattle.strings.proofs.Answer.{not-taken}
+use Rattle.strings.proofs.Tests.{past-first}
+use Rattle.strings.proofs.SoundTests.{IsSound}
 use Rattle.channel.proofs.Answers.{counts-by, tells-by}
-use Rattle.hearing.proofs.Hearing.{none-fits, heard-number, heard-shape, heard-verdict}
+use Rattle.hearing.proofs.Hearing.{none-fits, heard-then, heard-number, heard-shape, heard-verdict}
 
 -- ---- test by test
 -- a refusal by some tests is one by these and others after them: nothing changes
@@ -54,10 +56,10 @@ module _ {told : List ℕ} {h taken : Held} (q : Refusal) (before : List ℕ) wh
   refuses [] us e = absurd (not-taken q before e)
   refuses (t ∷ ts) us e = first-fits (t .number) (t .place) (t .fits) ts (ts ++ us) (refuses ts us) e
 
--- a test that does not fit: the others decide
-pub settles-on : {told : List ℕ} {h taken : Held} {a : Answer} {h′ : Held} (k : ℕ) {b : Bool} {ts : List Test} → b ≡ false
-    → Settles ts told h taken a h′ → Settles (test k b ∷ ts) told h taken a h′
-settles-on k e s = record { answer = rw e (s .answer); left = rw e (s .left) }
+-- a string that is heard: the tests of its place decide
+settles-heard : {told : List ℕ} {h taken : Held} {a : Answer} {h′ : Held} {ts : List Test} (s : List ℕ) → misshapen s ≡ false → IsSound (plainOf s)
+    → Settles ts told h taken a h′ → Settles (hearTests s ++ ts) told h taken a h′
+settles-heard {ts} s e i k = let p = heard-then s ts e i in record { answer = rw (p .0, p .1) (k .answer); left = rw (p .0) (k .left) }
 
 -- no test fits
 takes : {told : List ℕ} {h taken : Held} {a : Answer} {h′ : Held} (ts : List Test) → firstOf ts ≡ 0 → answerPaper a ≡ 0 ∷ told → h′ ≡ taken
@@ -78,10 +80,6 @@ fated-new : (k : ℕ) (place : List ℕ) (a b c d : ℕ) (t : Bool) → 0 ∷ 1 
 fated-new zero place a b c d true e = let q : _≡_ {A = ℕ} 1 0 = ap (λ (l : List ℕ). getD l 1 0) e in absurd (omega arith)
 fated-new zero place a b c d false e = ((refl, refl), (ap (λ (l : List ℕ). getD l 2 0) e, ap (λ (l : List ℕ). getD l 3 0) e))
 fated-new (suc k) place a b c d t e = let q : _≡_ {A = ℕ} 0 (suc k) = ap (λ (l : List ℕ). getD l 0 0) e in absurd (omega arith)
-
-past-five : (b : Bool) (ts : List Test) → firstOf (test 5 b ∷ ts) ≡ 0 → b ≡ false
-past-five true ts e = let z : _≡_ {A = ℕ} 5 0 = e in absurd (omega arith)
-past-five false ts e = refl
 
 -- the frame that a new string joins: the held one, or a new one
 joined-held : (h : Held) (start : ℕ) → isOfFrame (frameIn h) start ≡ true → held start (h .mask) (bytesBy (h .mask) (h .bytes)) ≡ h
@@ -121,7 +119,7 @@ module _ (h : Held) (epoch n : ℕ) (v : Verdict) (r : Fate) (f : FateBy (placeT
     -- a string that is taken has a number
     pub new-numbered : 1 ≤ numberIn n
     new-numbered =
-        let z = eqb-false (numberIn n) 0 (past-five (eqb (numberIn n) 0) (drop 1 tests) (facts .0 .0)) in
+        let z = eqb-false (numberIn n) 0 (past-first 4 (eqb (numberIn n) 0) (drop 1 tests) (facts .0 .0) .0) in
         lt-of-le-ne (omega arith) (λ q. z (sym q))
 
     -- it is stored in the frame that it joins
@@ -153,9 +151,9 @@ module _ (h : Held) (epoch : ℕ) (s out out′ : List ℕ) (c : Checked) (a : H
   heard-on v e x h′ p =
       let b : Hears s out (Sound v) out′ = subst (λ (y : Checked). Hears s out y out′) e a in
       let n = none-fits s out out′ v b in
-      settles-on 2 (n .0) (settles-on 3 (n .1 .0) (settles-on 4 (n .1 .1)
+      settles-heard s (n .0) (n .1)
       (subst (λ (w : Verdict). Places h epoch (wholeOf s) w x h′) (heard-verdict s out out′ v b)
-      (subst (λ (k : ℕ). Places h epoch k v x h′) (heard-number s out out′ v b) p))))
+      (subst (λ (k : ℕ). Places h epoch k v x h′) (heard-number s out out′ v b) p))
 
 -- ---- the row of it all: what is held, the record and the tallies by the answer
 abbrev pub rowBy : Row → Held → Bool → Outcome → Row

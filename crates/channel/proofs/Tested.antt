@@ -10,14 +10,14 @@ use native.Mathlib.Omega.{arith}
 use borrow.Author.Tests.{eq-eqb, ne-eqb, eqb-true, eqb-false, le-leb, le-ltb, ltb-false, not-true}
 use lib.Arith.{lt-of-le-ne}
 use lib.Dec.{eqb, ltb}
-use lib.ListN.{length, getD}
+use lib.ListN.{length, getD, drop}
 use lib.Pow.{pow-add}
 use Rattle.strings.specs.Number.{valueOf, paddingOf, misshapen, bitOf}
-use Rattle.strings.specs.Hamming.{ruling, isDamaged}
 use Rattle.strings.specs.Numbers.{Test, test, firstOf, placeOf, saidBy, answerOf}
-use Rattle.strings.specs.Calls.{isIdle}
 use Rattle.strings.proofs.Digits.{bit-lt}
 use Rattle.strings.proofs.Shape.{shaped, well-made}
+use Rattle.strings.proofs.Tests.{past-first}
+use Rattle.strings.proofs.SoundTests.{IsSound}
 use Rattle.words.specs.Calls.{numberIn}
 use Rattle.strings.proofs.Below.{both}
 use Rattle.hearing.specs.Hears.{plainOf, wholeOf, verdictIn}
@@ -28,6 +28,7 @@ use Rattle.channel.specs.Row.{isPresent, holdsFrame, frameOf}
 use Rattle.channel.specs.Offers.{answerPaper, toldOf, offerTests, Offers}
 use Rattle.channel.specs.Laws.{said, IsTaken, mIn, startAt, maskBit, HoldsFrame, Passes, IsHeld}
 use Rattle.channel.proofs.Frames.{number-small, present-held}
+use Rattle.hearing.proofs.Hearing.{heard-first, heard-then}
 use Rattle.channel.proofs.HeldFrame.{said-by, first-said}
 
 -- ---- the padding is the last byte's: every other byte is a multiple of 8 in the value
@@ -49,8 +50,7 @@ padding-last s e = value-last s 10 e
 -- ---- 2 to 6 do not fit
 record Past (epoch : ℕ) (s : List ℕ) : Type 0 where
   shape : misshapen s ≡ false
-  sound : isDamaged (ruling (plainOf s)) ≡ false
-  idle : isIdle (wholeOf s) ≡ false
+  sound : IsSound (plainOf s)
   number : eqb (numberIn (wholeOf s)) 0 ≡ false
   early : ltb epoch (numberIn (wholeOf s) - 1) ≡ false
 
@@ -58,8 +58,7 @@ past : (epoch : ℕ) (s : List ℕ) → Passes epoch s → Past epoch s
 past epoch s p =
     record {
       shape = well-made s (p .bytes) (padding-last s (p .bytes) ∙ p .padding);
-      sound = p .sound;
-      idle = ne-eqb (bitOf (wholeOf s) 85) 1 (λ e. omega (arith, p .idle));
+      sound = record { sound = p .sound; idle = ne-eqb (bitOf (wholeOf s) 85) 1 (λ e. omega (arith, p .idle)) };
       number = ne-eqb (numberIn (wholeOf s)) 0 (λ e. omega (arith, p .numbered));
       early = le-ltb epoch (numberIn (wholeOf s) - 1) (p .in-time);
     }
@@ -69,11 +68,11 @@ passes epoch s p =
     let h = shaped s (p .shape) in
     let m = numberIn (wholeOf s) in
     let z : m ≡ 0 → ⊥ = eqb-false m 0 (p .number) in
-    let i : bitOf (wholeOf s) 85 ≡ 1 → ⊥ = eqb-false (bitOf (wholeOf s) 85) 1 (p .idle) in
+    let i : bitOf (wholeOf s) 85 ≡ 1 → ⊥ = eqb-false (bitOf (wholeOf s) 85) 1 (p .sound .idle) in
     record {
       bytes = h .0;
       padding = sym (padding-last s (h .0)) ∙ h .1;
-      sound = p .sound;
+      sound = p .sound .sound;
       idle = not-one (bitOf (wholeOf s) 85) (bit-lt (wholeOf s) 85) i;
       numbered = lt-of-le-ne (omega arith) (λ q. z (sym q));
       in-time = ltb-false epoch (m - 1) (p .early);
@@ -84,30 +83,6 @@ passes epoch s p =
     not-one (suc zero) l n = absurd (n refl)
     not-one (suc (suc b)) l n = absurd (omega arith)
 
--- ---- none of the eight fits
-pub record NoneOf (a b c d e f g h : Bool) : Type 0 where
-  pub two : a ≡ false
-  pub three : b ≡ false
-  pub four : c ≡ false
-  pub five : d ≡ false
-  pub six : e ≡ false
-  pub seven : f ≡ false
-  pub eight : g ≡ false
-  pub nine : h ≡ false
-
-none-of : (a b c d e f g h : Bool)
-    → firstOf (test 2 a ∷ test 3 b ∷ test 4 c ∷ test 5 d ∷ test 6 e ∷ test 7 f ∷ test 8 g ∷ test 9 h ∷ []) ≡ 0 → NoneOf a b c d e f g h
-none-of true b c d e f g h q = let z : _≡_ {A = ℕ} 2 0 = q in absurd (omega arith)
-none-of false true c d e f g h q = let z : _≡_ {A = ℕ} 3 0 = q in absurd (omega arith)
-none-of false false true d e f g h q = let z : _≡_ {A = ℕ} 4 0 = q in absurd (omega arith)
-none-of false false false true e f g h q = let z : _≡_ {A = ℕ} 5 0 = q in absurd (omega arith)
-none-of false false false false true f g h q = let z : _≡_ {A = ℕ} 6 0 = q in absurd (omega arith)
-none-of false false false false false true g h q = let z : _≡_ {A = ℕ} 7 0 = q in absurd (omega arith)
-none-of false false false false false false true h q = let z : _≡_ {A = ℕ} 8 0 = q in absurd (omega arith)
-none-of false false false false false false false true q = let z : _≡_ {A = ℕ} 9 0 = q in absurd (omega arith)
-none-of false false false false false false false false q =
-    record { two = refl; three = refl; four = refl; five = refl; six = refl; seven = refl; eight = refl; nine = refl }
-
 -- 7 to 9 of a frame: the last three of the five that look at it
 abbrev fitsAt : Frame → ℕ → ℕ → ℕ → Bool
 fitsAt f epoch n j = getD (placeTests f epoch n) j (test 0 false) .fits
@@ -115,21 +90,34 @@ fitsAt f epoch n j = getD (placeTests f epoch n) j (test 0 false) .fits
 abbrev lastThree : Frame → ℕ → ℕ → List Test
 lastThree f epoch n = test 7 (fitsAt f epoch n 2) ∷ test 8 (fitsAt f epoch n 3) ∷ test 9 (fitsAt f epoch n 4) ∷ []
 
-module _ (f : Frame) (epoch : ℕ) (s : List ℕ) (t : firstOf (offerTests f epoch s) ≡ 0) where
-  abbrev string : ℕ
-  string = wholeOf s
+-- ---- none of the tests fits
+pub record NoneOf (f : Frame) (epoch : ℕ) (s : List ℕ) : Type 0 where
+  pub two : misshapen s ≡ false
+  pub sound : IsSound (plainOf s)
+  pub five : eqb (numberIn (wholeOf s)) 0 ≡ false
+  pub six : ltb epoch (numberIn (wholeOf s) - 1) ≡ false
+  pub seven : fitsAt f epoch (wholeOf s) 2 ≡ false
+  pub eight : fitsAt f epoch (wholeOf s) 3 ≡ false
+  pub nine : fitsAt f epoch (wholeOf s) 4 ≡ false
 
-  pub none-fits : NoneOf (misshapen s) (isDamaged (ruling (plainOf s))) (isIdle string) (eqb (numberIn string) 0) (ltb epoch (numberIn string - 1))
-      (fitsAt f epoch string 2) (fitsAt f epoch string 3) (fitsAt f epoch string 4)
+module _ (f : Frame) (epoch : ℕ) (s : List ℕ) (t : firstOf (offerTests f epoch s) ≡ 0) where
+  pub none-fits : NoneOf f epoch s
   none-fits =
-      none-of (misshapen s) (isDamaged (ruling (plainOf s))) (isIdle string) (eqb (numberIn string) 0) (ltb epoch (numberIn string - 1))
-      (fitsAt f epoch string 2) (fitsAt f epoch string 3) (fitsAt f epoch string 4) t
+      let n = wholeOf s in
+      let ts = placeTests f epoch n in
+      let heard = heard-first s ts t in
+      let five = past-first 4 (eqb (numberIn n) 0) (drop 1 ts) (heard .1 .1) in
+      let six = past-first 5 (ltb epoch (numberIn n - 1)) (drop 2 ts) (five .1) in
+      let seven = past-first 6 (fitsAt f epoch n 2) (drop 3 ts) (six .1) in
+      let eight = past-first 7 (fitsAt f epoch n 3) (drop 4 ts) (seven .1) in
+      let nine = past-first 8 (fitsAt f epoch n 4) [] (eight .1) in
+      record { two = heard .0; sound = heard .1 .0; five = five .0; six = six .0; seven = seven .0; eight = eight .0; nine = nine .0 }
 
   -- WHAT IS TAKEN PASSED 2 TO 6: it has eleven bytes and padding 0
   pub all-pass : Passes epoch s
   all-pass =
       let z = none-fits in
-      passes epoch s (record { shape = z .two; sound = z .three; idle = z .four; number = z .five; early = z .six })
+      passes epoch s (record { shape = z .two; sound = z .sound; number = z .five; early = z .six })
 
 -- ---- what a mask says, in its bits
 pub held-true : (row : Row) → HoldsFrame row → holdsFrame (row .present) ≡ true
@@ -194,12 +182,13 @@ module _ (row : Row) (epoch : ℕ) (s : List ℕ) (r : Offered) (o : Offers row 
   pub passed-said : Passes epoch s → answerPaper (r .answer) ≡ answerOf (lastThree frame epoch n) (toldOf frame epoch n (verdictIn s))
   passed-said p =
       let q = past epoch s p in
-      said-by row epoch s r o ∙ rw (q .shape, q .sound, q .idle, q .number, q .early)
+      let h = heard-then s (placeTests frame epoch n) (q .shape) (q .sound) in
+      said-by row epoch s r o ∙ rw (h .0, h .1, q .number, q .early)
 
   pub passed-first : Passes epoch s → said r 0 ≡ firstOf (lastThree frame epoch n)
   passed-first p =
       let q = past epoch s p in
-      first-is ∙ rw (q .shape, q .sound, q .idle, q .number, q .early)
+      first-is ∙ heard-then s (placeTests frame epoch n) (q .shape) (q .sound) .0 ∙ rw (q .number, q .early)
 
   -- what is taken tells m, the verdict and the news
   pub taken-told : IsTaken r → answerPaper (r .answer) ≡ 0 ∷ toldOf frame epoch n (verdictIn s)

@@ -8,6 +8,7 @@ use mathlib.Core.Logic.{_⊎_, _↔_}
 use mathlib.Core.Path.{_≡_, refl}
 use lib.ListN.{length, getD, take, drop, replicate}
 use Rattle.strings.specs.Number.{numberOf, bitOf, wordOf, stringBytes}
+use Rattle.strings.specs.Calls.{soundTests}
 use Rattle.strings.specs.Hamming.{ruling, isDamaged}
 use Rattle.strings.specs.Numbers.{numbersOf}
 use Rattle.immediate.specs.Ranges.{InRange}
@@ -132,4 +133,5 @@ pub record AllLaws : Type 0 where
 -- ---- "An offer is tested in the order 1 to 9": here from 2 on
 pub test-order : (f : Frame) (epoch : ℕ) (s : List ℕ)
     → numbersOf (offerTests f epoch s) ≡ 2 ∷ 3 ∷ 4 ∷ 5 ∷ 6 ∷ 7 ∷ 8 ∷ 9 ∷ []
+unfolding soundTests
 test-order f epoch s = refl

@@ -2,11 +2,12 @@
 -- Assumes nothing.
 use mathlib.Core.Path.{_≡_, refl, sym, ap, subst, _∙_}
 use mathlib.Core.Bool.{Bool, true, false, true≢false}
-use mathlib.Core.List.{List, [], _∷_}
-use Prim.Native.Nat.{ℕ, _^_, _<_}
+use mathlib.Core.List.{List, [], _∷_, _++_}
+use Prim.Native.Nat.{ℕ, zero, suc, _^_, _<_}
 use native.Mathlib.Omega.{arith}
 use lib.Dec.{eqb, lit<}
-use lib.ListN.{length, getD}
+use lib.ListN.{length}
+use borrow.Author.Tests.{eq-eqb, ne-eqb}
 use Rattle.strings.specs.declared.Refusal.{Refusal}
 use Rattle.strings.specs.declared.Verdict.{Verdict}
 use Rattle.strings.specs.declared.Written.{Written}
@@ -16,12 +17,14 @@ use Rattle.strings.specs.declared.Checked.the-variants.{Taken, Refused as NotTa
 use Rattle.strings.specs.declared.hamming.Ruling.{Ruling}
 use Rattle.strings.specs.declared.hamming.Ruling.the-variants.{Sound, Damaged as DAMAGED}
 use Rattle.strings.specs.Number.{numberOf, misshapen, stringBytes}
-use Rattle.strings.specs.Hamming.{ruling, isDamaged, mended}
-use Rattle.strings.specs.Numbers.{refusalPaper, verdictPaper, test, firstOf, answerOf, Answers}
-use Rattle.strings.specs.Calls.{Checks, writtenPaper, checkedPaper, verdictTold, isIdle}
+use Rattle.strings.specs.Hamming.{ruling, isDamaged}
+use Rattle.strings.specs.Numbers.{refusalPaper, verdictPaper, Test, test, firstOf, placeOf, saidBy, answerOf, Answers}
+use Rattle.strings.specs.Calls.{Checks, writtenPaper, verdictTold, soundTests}
 use Rattle.relative.specs.Calls.{ReadsRelative}
-use Rattle.strings.proofs.Answer.{verdict-same, taken-made, not-taken}
+use Rattle.strings.proofs.Answer.{verdict-same, first-given, taken-made, not-taken}
 use Rattle.strings.proofs.Below.{unfit}
+use Rattle.strings.proofs.Tests.{past-first}
+use Rattle.strings.proofs.SoundTests.{IsSound, sound-alone, sound-first, sound-then}
 use Rattle.strings.proofs.Judge.{mended-lt}
 use Rattle.relative.proofs.RelativeCode.{read-lt, reads-exactly}
 use Rattle.strings.proofs.Shape.{has-room, string-shaped}
@@ -36,7 +39,7 @@ module _ (s plain plain′ : List ℕ) (c : Written) (room : length plain ≡ 11
   hears-no q e = by (misshapen s) (rw (has-room plain room) at (ap writtenPaper (sym e) ∙ a .answer))
     where
       by : (b : Bool) → refusalPaper q ≡ answerOf (test 2 b ∷ []) []
-          → Answers (test 2 b ∷ test 3 (isDamaged (ruling (plainOf s))) ∷ test 4 (isIdle (wholeOf s)) ∷ []) (verdictTold (ruling (plainOf s))) (stringBytes (wholeOf s)) out (refusalPaper q) out
+          → Answers (test 2 b ∷ soundTests (plainOf s)) (verdictTold (ruling (plainOf s))) (stringBytes (wholeOf s)) out (refusalPaper q) out
       by true e = record { answer = e; output = refl }
       by false e = absurd (not-taken q [] e)
 
@@ -59,14 +62,11 @@ module _ (s plain plain′ : List ℕ) (c : Written) (room : length plain ≡ 11
 -- one of the three tests fits
 pub heard-not : (s out out′ : List ℕ) (q : Refusal) → Hears s out (NotTaken q) out′ → eqb (firstOf (hearTests s)) 0 ≡ false
 unfolding Hears
-heard-not s out out′ q a = by (misshapen s) (isDamaged (ruling (plainOf s))) (isIdle (wholeOf s)) (a .answer)
+heard-not s out out′ q a = by (firstOf (hearTests s)) (a .answer)
   where
-    by : (x y z : Bool) → refusalPaper q ≡ answerOf (test 2 x ∷ test 3 y ∷ test 4 z ∷ []) (verdictTold (ruling (plainOf s)))
-        → eqb (firstOf (test 2 x ∷ test 3 y ∷ test 4 z ∷ [])) 0 ≡ false
-    by true y z e = refl
-    by false true z e = refl
-    by false false true e = refl
-    by false false false e = absurd (not-taken q _ e)
+    by : (k : ℕ) → refusalPaper q ≡ saidBy k (placeOf (hearTests s)) (verdictTold (ruling (plainOf s))) → eqb k 0 ≡ false
+    by zero e = absurd (not-taken q _ e)
+    by (suc k) e = ne-eqb (suc k) 0 (λ z. omega arith)
 
 -- ---- what is heard is taken
 pub whole-lt : (s : List ℕ) → wholeOf s < 2 ^ 85
@@ -82,23 +82,19 @@ rest [] = []
 rest (x ∷ l) = l
 
 module _ (s out out′ : List ℕ) (v : Verdict) (a : Hears s out (Taken v) out′) where
-  pub none-fits : (misshapen s ≡ false) × ((isDamaged (ruling (plainOf s)) ≡ false) × (isIdle (wholeOf s) ≡ false))
+  none : firstOf (hearTests s) ≡ 0
   unfolding Hears
-  none-fits = by (misshapen s) (isDamaged (ruling (plainOf s))) (isIdle (wholeOf s)) (a .answer)
-    where
-      by : (x y z : Bool) → 0 ∷ verdictPaper v ≡ answerOf (test 2 x ∷ test 3 y ∷ test 4 z ∷ []) (verdictTold (ruling (plainOf s)))
-          → (x ≡ false) × ((y ≡ false) × (z ≡ false))
-      by true y z e = let q : _≡_ {A = ℕ} 0 2 = ap (λ (l : List ℕ). getD l 0 0) e in absurd (omega arith)
-      by false true z e = let q : _≡_ {A = ℕ} 0 3 = ap (λ (l : List ℕ). getD l 0 0) e in absurd (omega arith)
-      by false false true e = let q : _≡_ {A = ℕ} 0 4 = ap (λ (l : List ℕ). getD l 0 0) e in absurd (omega arith)
-      by false false false e = (refl, (refl, refl))
+  none = first-given (hearTests s) (verdictTold (ruling (plainOf s))) (a .answer)
+
+  pub none-fits : (misshapen s ≡ false) × IsSound (plainOf s)
+  none-fits = let p = past-first 1 (misshapen s) (soundTests (plainOf s)) none in (p .0, sound-alone (plainOf s) (p .1))
 
   pub heard-clear : eqb (firstOf (hearTests s)) 0 ≡ true
-  heard-clear = let n = none-fits in rw (n .0, n .1 .0, n .1 .1)
+  heard-clear = eq-eqb (firstOf (hearTests s)) 0 none
 
   pub heard-bytes : out′ ≡ stringBytes (wholeOf s)
   unfolding Hears
-  heard-bytes = let n = none-fits in rw (n .0, n .1 .0, n .1 .1) at (a .output)
+  heard-bytes = taken-made (verdictPaper v) a
 
   pub heard-number : numberOf out′ ≡ wholeOf s
   heard-number = ap numberOf heard-bytes ∙ string-number (wholeOf s) (whole-lt s)
@@ -109,5 +105,15 @@ module _ (s out out′ : List ℕ) (v : Verdict) (a : Hears s out (Taken v) out�
   pub heard-verdict : v ≡ verdictIn s
   unfolding Hears rest
   heard-verdict =
-      let n = none-fits in
-      verdict-is (ruling (plainOf s)) v (n .1 .0) (ap rest (rw (n .0, n .1 .0, n .1 .1) at (a .answer)))
+      let x = ruling (plainOf s) in
+      verdict-is x v (none-fits .1 .sound) (ap rest (a .answer ∙ ap (λ (k : ℕ). saidBy k (placeOf (hearTests s)) (verdictTold x)) none))
+
+-- ---- other tests after these
+module _ (s : List ℕ) (ts : List Test) where
+  -- none fits
+  pub heard-first : firstOf (hearTests s ++ ts) ≡ 0 → (misshapen s ≡ false) × (IsSound (plainOf s) × (firstOf ts ≡ 0))
+  heard-first e = let p = past-first 1 (misshapen s) (soundTests (plainOf s) ++ ts) e in (p .0, sound-first (plainOf s) ts (p .1))
+
+  -- these do not fit: the others decide
+  pub heard-then : misshapen s ≡ false → IsSound (plainOf s) → (firstOf (hearTests s ++ ts) ≡ firstOf ts) × (placeOf (hearTests s ++ ts) ≡ placeOf ts)
+  heard-then e i = let p = sound-then (plainOf s) i ts in (rw e (p .0), rw e (p .1))

@@ -2,16 +2,16 @@
 -- repaired before anything else is asked of it.
 -- Assumes nothing.
 use Prim.Native.Nat.{ℕ}
-use mathlib.Core.List.{List, [], _∷_}
+use mathlib.Core.List.{List, _∷_}
 use Rattle.strings.specs.declared.Verdict.{Verdict}
 use Rattle.strings.specs.declared.Verdict.the-variants.{Clean}
 use Rattle.strings.specs.declared.Checked.{Checked}
 use Rattle.strings.specs.declared.hamming.Ruling.{Ruling}
 use Rattle.strings.specs.declared.hamming.Ruling.the-variants.{Sound, Damaged}
 use Rattle.strings.specs.Number.{numberOf, misshapen, stringBytes}
-use Rattle.strings.specs.Hamming.{ruling, isDamaged, mended}
+use Rattle.strings.specs.Hamming.{ruling, mended}
 use Rattle.strings.specs.Numbers.{Test, test, Answers}
-use Rattle.strings.specs.Calls.{isIdle, checkedPaper, verdictTold}
+use Rattle.strings.specs.Calls.{soundTests, checkedPaper, verdictTold}
 use Rattle.relative.specs.Relative.{readRelative}
 
 -- the plain string of the symbols
@@ -32,7 +32,7 @@ verdictIn s = verdictOf (ruling (plainOf s))
 
 -- SHAPE, DAMAGED, IDLE
 abbrev pub hearTests : List ℕ → List Test
-hearTests s = test 2 (misshapen s) ∷ test 3 (isDamaged (ruling (plainOf s))) ∷ test 4 (isIdle (wholeOf s)) ∷ []
+hearTests s = test 2 (misshapen s) ∷ soundTests (plainOf s)
 
 -- the verdict, and the string in eleven bytes; a refusal leaves them as they were
 unfoldable pub Hears : List ℕ → List ℕ → Checked → List ℕ → Type 0

@@ -8,6 +8,7 @@ use Rattle.strings.specs.Number.{numberOf, paddingOf, misshapen, wordOf, flip, 
 use Rattle.relative.specs.Relative.{readRelative, writeRelative}
 use Rattle.strings.specs.Hamming.{position, sumC, sumAll, syndrome, sumsSet, highest, placed, judge, ruling, mended, sumsMade, encode}
 use Rattle.strings.specs.Numbers.{answerOf}
+use Rattle.strings.specs.Calls.{soundTests}
 use Rattle.layout.specs.Layout.{layout}
 use Rattle.words.specs.Values.{valuesOf, firstBad}
 use Rattle.book.specs.declared.Book.{Book}
@@ -233,7 +234,7 @@ pub record Witness : Type 0 where
   pub record-channel : answerOf (recordTests goodEntry 24) [] ≡ 1 ∷ []
 
 pub witness : Witness
-unfolding whole inBytes sent sentDamaged one two three four five six1 seven fourteen fifteen six2 sixAbove sixGood fiveNext twoIll damaged numberOf paddingOf misshapen wordOf flip stringBytes readRelative writeRelative position sumC sumAll syndrome sumsSet highest placed judge ruling mended sumsMade encode layout valuesOf firstBad entryOf greater isGood dayOf isShown threeOf shownBy emptyBook joined joinedShown oneMore isPresent holdsFrame hasRecord emptyRow newFrame stored heldWith counted takenRow frameBy brought heldAfter freshStation noRow stationAfter stationReset judged healthBy callsOn saidAfter stationOf half entry twoFrames twoChannels greaterLast greaterFirst tiedRows tiedBook nextDay sixLast recordAlone goodEntry illEntry illRecord
+unfolding whole inBytes sent sentDamaged one two three four five six1 seven fourteen fifteen six2 sixAbove sixGood fiveNext twoIll damaged soundTests numberOf paddingOf misshapen wordOf flip stringBytes readRelative writeRelative position sumC sumAll syndrome sumsSet highest placed judge ruling mended sumsMade encode layout valuesOf firstBad entryOf greater isGood dayOf isShown threeOf shownBy emptyBook joined joinedShown oneMore isPresent holdsFrame hasRecord emptyRow newFrame stored heldWith counted takenRow frameBy brought heldAfter freshStation noRow stationAfter stationReset judged healthBy callsOn saidAfter stationOf half entry twoFrames twoChannels greaterLast greaterFirst tiedRows tiedBook nextDay sixLast recordAlone goodEntry illEntry illRecord
 witness =
     record {
       six2-sent = refl;

@@ -1,12 +1,11 @@
--- The laws of a lent offer (laws). An offer's answer is that of the first of nine tests that fits (some-answer); and it is read back from the one
--- number, byte by byte (paper-read).
+-- The laws of a lent offer (laws). The numbers of an offer's answer are bytes (answer-bytes); and it is read back from the one number, byte by byte
+-- (paper-read).
 -- Assumes nothing.
 use Prim.Native.Nat.{ℕ, zero, suc, _<_, _≤_, _/_, _%_, _*_, _^_}
 use native.Mathlib.Omega.{arith}
-use mathlib.Core.Bool.{Bool, true, false}
 use mathlib.Core.List.{List, [], _∷_}
 use mathlib.Core.Path.{_≡_, refl, sym, ap, subst, _∙_}
-use lib.Dec.{eqb}
+use lib.Dec.{eqb, ltb, ltb→lt}
 use lib.ListN.{getD, take}
 use Rattle.strings.specs.Pick.{pick}
 use Rattle.strings.specs.declared.Refusal.{Refusal}
@@ -15,35 +14,30 @@ use Rattle.strings.specs.declared.Verdict.{Verdict}
 use Rattle.strings.specs.declared.Verdict.the-variants.{Clean, Repaired}
 use Rattle.strings.specs.declared.hamming.Ruling.{Ruling}
 use Rattle.strings.specs.declared.hamming.Ruling.the-variants.{Sound, Damaged as Bad}
-use Rattle.strings.specs.Number.{misshapen}
-use Rattle.strings.specs.Hamming.{NamesBit, ruling, isDamaged}
-use Rattle.strings.specs.Numbers.{refusalPaper, test, answerOf}
-use Rattle.strings.specs.Calls.{isIdle}
+use Rattle.strings.specs.Hamming.{NamesBit, ruling}
+use Rattle.strings.specs.Numbers.{refusalPaper, Test, firstOf, placeOf, saidBy, answerOf}
+use Rattle.strings.specs.Calls.{soundTests}
 use Rattle.strings.proofs.Judge.{names-bit}
+use Rattle.strings.proofs.Tests.{first-of, no-place}
 use Rattle.words.specs.Calls.{numberIn}
 use Rattle.channel.specs.declared.News.{News}
 use Rattle.channel.specs.declared.News.the-variants.{AlreadyHeld, Kept, RecordBuilt, RecordOutOfRange}
 use Rattle.channel.specs.declared.Answer.{Answer}
 use Rattle.channel.specs.declared.Answer.the-variants.{Taken, Refused}
-use Rattle.channel.specs.Frame.{placeTests, newsOf}
+use Rattle.channel.specs.Frame.{newsOf}
 use Rattle.channel.specs.Offers.{newsNumber, answerPaper, toldAs}
 use Rattle.channel.proofs.Answers.{answer-same}
 use Rattle.channel.proofs.Frames.{number-small}
 use Rattle.hearing.specs.Hears.{plainOf, wholeOf, verdictOf}
 use Rattle.station.specs.declared.Station.{Station}
 use Rattle.station.specs.declared.Stepped.{Stepped}
-use Rattle.station.specs.Station.{heldAt, isNoChannel, stationTests, toldIn, stationAfter, OffersTo}
+use Rattle.station.specs.Station.{heldAt, stationTests, toldIn, stationAfter, OffersTo}
 use Rattle.station.specs.History.{Call, Offer, Runs, offering}
+use Rattle.station.proofs.EveryHistory.{some-answer}
 use Rattle.told.specs.Told.{packed, AreBytes}
 use Rattle.told.proofs.ReadBack.{read-back}
 use Rattle.lent.specs.Lent.{OffersLent}
 use Rattle.lent.specs.Laws.{AsOffered, ToldAs, Laws}
-
--- ---- the answer that the tests give, and that its numbers are bytes
-record Told (said : List ℕ) : Type 0 where
-  answer : Answer
-  is : answerPaper answer ≡ said
-  small : AreBytes said
 
 -- ---- bytes, one after another
 none-left : AreBytes []
@@ -69,23 +63,10 @@ taken-bytes : (m : ℕ) (v : Verdict) (w : News) → m ≤ 15 → NamesBit v →
 taken-bytes m Clean w l b = five-bytes m 0 0 (newsNumber w) (omega (arith, l)) (omega arith) (omega arith) (news-byte w)
 taken-bytes m (Repaired i) w l b = five-bytes m 1 i (newsNumber w) (omega (arith, l)) (omega arith) (omega (arith, b .1)) (news-byte w)
 
--- ---- the first of the nine tests that fits
-refused : (q : Refusal) (n : ℕ) → n < 256 → refusalPaper q ≡ n ∷ [] → Told (n ∷ [])
-refused q n l e = record { answer = Refused q; is = e; small = before n [] l none-left }
-
-module _ (m : ℕ) (v : Verdict) (w : News) (l : m ≤ 15) (b : NamesBit v) where
-  first-told : (t₁ t₂ t₃ t₄ t₅ t₆ t₇ t₈ t₉ : Bool)
-      → Told (answerOf (test 1 t₁ ∷ test 2 t₂ ∷ test 3 t₃ ∷ test 4 t₄ ∷ test 5 t₅ ∷ test 6 t₆ ∷ test 7 t₇ ∷ test 8 t₈ ∷ test 9 t₉ ∷ []) (toldAs m v w))
-  first-told true t₂ t₃ t₄ t₅ t₆ t₇ t₈ t₉ = refused Channel 1 (omega arith) refl
-  first-told false true t₃ t₄ t₅ t₆ t₇ t₈ t₉ = refused Shape 2 (omega arith) refl
-  first-told false false true t₄ t₅ t₆ t₇ t₈ t₉ = refused Damaged 3 (omega arith) refl
-  first-told false false false true t₅ t₆ t₇ t₈ t₉ = refused Idle 4 (omega arith) refl
-  first-told false false false false true t₆ t₇ t₈ t₉ = refused Number 5 (omega arith) refl
-  first-told false false false false false true t₇ t₈ t₉ = refused Early 6 (omega arith) refl
-  first-told false false false false false false true t₈ t₉ = refused Stale 7 (omega arith) refl
-  first-told false false false false false false false true t₉ = refused OffBeat 8 (omega arith) refl
-  first-told false false false false false false false false true = refused Conflict 9 (omega arith) refl
-  first-told false false false false false false false false false = record { answer = Taken m v w; is = refl; small = taken-bytes m v w l b }
+-- ---- what tests say whose numbers are bytes and that tell no place
+said-bytes : (k : ℕ) (place told : List ℕ) → k < 256 → place ≡ [] → AreBytes (0 ∷ told) → AreBytes (saidBy k place told)
+said-bytes zero place told l e h = h
+said-bytes (suc k) place told l e h = before (suc k) place l (subst AreBytes (sym e) none-left)
 
 names-one : (n : ℕ) → NamesBit (verdictOf (ruling n))
 names-one n = by (ruling n) refl
@@ -94,13 +75,23 @@ names-one n = by (ruling n) refl
     by (Sound v) e = names-bit n v e
     by (Bad d) e = tt
 
-some-answer : (st : Station) (c epoch : ℕ) (s : List ℕ) → Told (answerOf (stationTests st c epoch s) (toldIn st c epoch s))
-some-answer st c epoch s =
-    let n = wholeOf s in
-    let x = ruling (plainOf s) in
-    let fit : ℕ → Bool = λ j. getD (placeTests (heldAt st c) epoch n) j (test 0 false) .fits in
-    first-told (numberIn n) (verdictOf x) (newsOf (heldAt st c) epoch n) (number-small n) (names-one (plainOf s))
-    (isNoChannel c) (misshapen s) (isDamaged x) (isIdle n) (fit 0) (fit 1) (fit 2) (fit 3) (fit 4)
+module _ (st : Station) (c epoch : ℕ) (s : List ℕ) where
+  abbrev tests : List Test
+  tests = stationTests st c epoch s
+
+  small : firstOf tests < 256
+  unfolding soundTests
+  small = ltb→lt (firstOf tests) 256 (first-of (λ k. ltb k 256) tests tt tt)
+
+  placed-nowhere : placeOf tests ≡ []
+  unfolding soundTests
+  placed-nowhere = no-place tests tt
+
+  answer-bytes : AreBytes (answerOf tests (toldIn st c epoch s))
+  answer-bytes =
+      let n = wholeOf s in
+      said-bytes (firstOf tests) (placeOf tests) (toldIn st c epoch s) small placed-nowhere
+      (taken-bytes (numberIn n) (verdictOf (ruling (plainOf s))) (newsOf (heldAt st c) epoch n) (number-small n) (names-one (plainOf s)))
 
 -- ---- the offer that a lent one is
 module _ (st : Station) (c epoch : ℕ) (s : List ℕ) where
@@ -121,7 +112,7 @@ module _ (st : Station) (c epoch : ℕ) (s : List ℕ) where
     runs-on cs run o = subst (Runs (Offer c epoch s ∷ cs)) (sym (o .station)) (offering c epoch s cs st step run offered)
 
   bytes : (r : Stepped) → OffersTo st c epoch s r → AreBytes (answerPaper (r .answer))
-  bytes r o = subst AreBytes (sym (o .answer)) (some-answer st c epoch s .small)
+  bytes r o = subst AreBytes (sym (o .answer)) (answer-bytes st c epoch s)
 
 -- ---- an answer read back: five numbers after a 0, two where the first is 10, and else the first alone
 abbrev five : List ℕ → List ℕ

@@ -1,29 +1,30 @@
 -- The line of a record is the paper's, from what an offer promises (lists-by), and no second one fits (lists-once).
 -- Assumes nothing.
 use mathlib.Core.Path.{_≡_, refl, sym, ap, ap₂, subst, _∙_}
-use mathlib.Core.Bool.{Bool, true, false}
+use mathlib.Core.Bool.{Bool, true, false, not, _&&_}
 use mathlib.Core.List.{List, [], _∷_}
+use mathlib.Core.Logic.{⊎-elim}
 use Prim.Native.Nat.{ℕ, zero, suc}
 use native.Mathlib.Omega.{arith}
-use lib.Dec.{eqb}
-use lib.ListN.{length, getD}
+use lib.Dec.{T, eqb}
+use lib.ListN.{length, getD, drop}
 use lib.Seq.{drop-cons}
-use borrow.Author.Tests.{eqb-true}
+use borrow.Author.Tests.{eq-eqb, eqb-true}
 use Rattle.strings.specs.Pick.{pick, isOneOf}
 use Rattle.strings.specs.declared.Refusal.{Refusal}
 use Rattle.strings.specs.declared.Refusal.the-variants.{Channel, Shape, Damaged, Idle, Number, Early, Stale, OffBeat, Conflict, Range, Place, Room, Nothing, Slot}
 use Rattle.strings.specs.declared.Verdict.{Verdict}
 use Rattle.strings.specs.declared.Verdict.the-variants.{Clean, Repaired}
-use Rattle.strings.specs.Number.{valueOf, misshapen}
-use Rattle.strings.specs.Hamming.{ruling, isDamaged}
+use Rattle.strings.specs.Number.{valueOf}
 use Rattle.strings.specs.Numbers.{refusalPaper, Test, test, firstOf, placeOf, saidBy, answerOf}
-use Rattle.strings.specs.Calls.{isIdle}
+use Rattle.strings.specs.Calls.{soundTests}
+use Rattle.strings.proofs.Tests.{past-first, allOf, first-of, first-by}
 use Rattle.words.specs.Calls.{numberIn}
 use Rattle.channel.specs.declared.News.{News}
 use Rattle.channel.specs.declared.Answer.{Answer}
 use Rattle.channel.specs.declared.Answer.the-variants.{Taken, Refused}
 use Rattle.channel.specs.Frame.{placeTests, newsOf}
-use Rattle.hearing.specs.Hears.{plainOf, wholeOf, verdictIn}
+use Rattle.hearing.specs.Hears.{wholeOf, verdictIn, hearTests}
 use Rattle.channel.specs.Offers.{answerPaper}
 use Rattle.channel.proofs.HeldFrame.{first-said}
 use Rattle.station.specs.declared.Station.{Station}
@@ -33,7 +34,7 @@ use Rattle.lines.specs.declared.Line.{Line}
 use Rattle.lines.specs.declared.Listed.{Listed}
 use Rattle.seen.specs.declared.seeing.Seen.{Seen}
 use Rattle.lines.specs.Line.{channelIn, epochIn, symbolsIn, beforeVerdict, beforeNumber, repairedFor, mFor, lineFor, Lists}
-use Rattle.seen.specs.Seen.{bitIn, seen, seenIn, comesBeforeVerdict, seenBy}
+use Rattle.seen.specs.Seen.{bitIn, seen, isHeard, seenIn, comesBeforeVerdict, seenBy}
 
 -- the refusals before the verdict are the paper's 1..4
 comes-before : (q : Refusal) → comesBeforeVerdict q ≡ isOneOf beforeVerdict (getD (refusalPaper q) 0 0)
@@ -53,25 +54,26 @@ comes-before Nothing = refl
 comes-before Slot = refl
 
 -- ---- a refused string
-abbrev nineTests : Bool → Bool → Bool → Bool → Bool → Bool → Bool → Bool → Bool → List Test
-nineTests a b c d e f g h i =
-    test 1 a ∷ test 2 b ∷ test 3 c ∷ test 4 d ∷ test 5 e ∷ test 6 f ∷ test 7 g ∷ test 8 h ∷ test 9 i ∷ []
+-- a number of both lists, and one of neither: what is seen again is what the paper tells
+abbrev heldBack : ℕ → Bool
+heldBack k = isOneOf beforeVerdict k && isOneOf beforeNumber k
 
--- whichever of the nine fits first: what is seen again is what the paper tells. At NUMBER m is 0
-seen-again : (a b c d e f g h i : Bool) (bit m : ℕ) → (e ≡ true → m ≡ 0)
-    → let k = firstOf (nineTests a b c d e f g h i) in
-    pick (isOneOf beforeVerdict k) (seen 0 0) (pick (eqb (firstOf (test 2 b ∷ test 3 c ∷ test 4 d ∷ [])) 0) (seen bit m) (seen 0 0))
-    ≡ seen (pick (isOneOf beforeVerdict k) 0 bit) (pick (isOneOf beforeNumber k) 0 m)
-seen-again true b c d e f g h i bit m z = refl
-seen-again false true c d e f g h i bit m z = refl
-seen-again false false true d e f g h i bit m z = refl
-seen-again false false false true e f g h i bit m z = refl
-seen-again false false false false true f g h i bit m z = ap (seen bit) (z refl)
-seen-again false false false false false true g h i bit m z = refl
-seen-again false false false false false false true h i bit m z = refl
-seen-again false false false false false false false true i bit m z = refl
-seen-again false false false false false false false false true bit m z = refl
-seen-again false false false false false false false false false bit m z = refl
+abbrev tellsBoth : ℕ → Bool
+tellsBoth k = not (isOneOf beforeVerdict k) && not (isOneOf beforeNumber k)
+
+abbrev Again : ℕ → Bool → ℕ → ℕ → Type 0
+Again k heard bit m =
+    pick (isOneOf beforeVerdict k) (seen 0 0) (pick heard (seen bit m) (seen 0 0)) ≡ seen (pick (isOneOf beforeVerdict k) 0 bit) (pick (isOneOf beforeNumber k) 0 m)
+
+held-back : (a b heard : Bool) (bit m : ℕ) → T (a && b) → pick a (seen 0 0) (pick heard (seen bit m) (seen 0 0)) ≡ seen (pick a 0 bit) (pick b 0 m)
+held-back true true heard bit m t = refl
+held-back true false heard bit m t = absurd t
+held-back false b heard bit m t = absurd t
+
+tells-both : (a b : Bool) (bit m : ℕ) → T (not a && not b) → pick a (seen 0 0) (seen bit m) ≡ seen (pick a 0 bit) (pick b 0 m)
+tells-both true b bit m t = absurd t
+tells-both false true bit m t = absurd t
+tells-both false false bit m t = refl
 
 -- ---- a taken one
 told-bit : (m : ℕ) (v : Verdict) (w : News) → getD (answerPaper (Taken m v w)) 3 0 ≡ bitIn v
@@ -95,14 +97,45 @@ module _ (st : Station) (c epoch : ℕ) (s : List ℕ) where
       (ap (λ (l : List ℕ). getD l 1 0) e)
   seen-taken m v w (suc k) e = let z : _≡_ {A = ℕ} 0 (suc k) = ap (λ (l : List ℕ). getD l 0 0) e in absurd (omega arith)
 
+  -- those before the place: CHANNEL, and what is heard of the bytes
+  abbrev first : List Test
+  first = test 1 (isNoChannel c) ∷ hearTests s
+
+  abbrev after : List Test
+  after = placeTests (heldAt st c) epoch (wholeOf s)
+
+  first-held : T (allOf heldBack first)
+  unfolding soundTests
+  first-held = tt
+
+  -- EARLY and those after it
+  later-told : T (tellsBoth (firstOf (drop 1 after)))
+  later-told = first-of tellsBoth (drop 1 after) tt tt
+
+  -- NUMBER, whose m is 0, or one of those
+  place-seen : (k : ℕ) → k ≡ firstOf after → Again k true (bitIn (verdictIn s)) (numberIn (wholeOf s))
+  place-seen k e = by (eqb (numberIn (wholeOf s)) 0) refl e
+    where
+      by : (t : Bool) → eqb (numberIn (wholeOf s)) 0 ≡ t → k ≡ pick t 5 (firstOf (drop 1 after)) → Again k true (bitIn (verdictIn s)) (numberIn (wholeOf s))
+      by true z q = rw q (ap (seen (bitIn (verdictIn s))) (eqb-true (numberIn (wholeOf s)) 0 z))
+      by false z q =
+          rw q
+          (tells-both (isOneOf beforeVerdict (firstOf (drop 1 after))) (isOneOf beforeNumber (firstOf (drop 1 after))) (bitIn (verdictIn s)) (numberIn (wholeOf s)) later-told)
+
+  -- whichever test fits first
+  seen-again : Again (firstOf tests) (isHeard s) (bitIn (verdictIn s)) (numberIn (wholeOf s))
+  seen-again =
+      let k = firstOf tests in
+      let bit = bitIn (verdictIn s) in
+      let m = numberIn (wholeOf s) in
+      ⊎-elim (λ (h : T (heldBack k)). held-back (isOneOf beforeVerdict k) (isOneOf beforeNumber k) (isHeard s) bit m h)
+      (λ (o : (firstOf first ≡ 0) × (k ≡ firstOf after)).
+      let heard = eq-eqb (firstOf (hearTests s)) 0 (past-first 0 (isNoChannel c) (hearTests s) (o .0) .1) in
+      subst (λ (t : Bool). Again k t bit m) (sym heard) (place-seen k (o .1))) (first-by heldBack first after first-held)
+
   seen-refused : (q : Refusal) → getD (refusalPaper q) 0 0 ≡ firstOf tests → seenBy (Refused q) s ≡ told (firstOf tests)
   unfolding seenBy seenIn
-  seen-refused q e =
-      let n = wholeOf s in
-      let x = ruling (plainOf s) in
-      let fit : ℕ → Bool = λ j. getD (placeTests (heldAt st c) epoch n) j (test 0 false) .fits in
-      ap (λ (t : Bool). pick t (seen 0 0) (seenIn s)) (comes-before q ∙ ap (isOneOf beforeVerdict) e)
-      ∙ seen-again (isNoChannel c) (misshapen s) (isDamaged x) (isIdle n) (fit 0) (fit 1) (fit 2) (fit 3) (fit 4) (bitIn (verdictIn s)) (numberIn n) (eqb-true (numberIn n) 0)
+  seen-refused q e = ap (λ (t : Bool). pick t (seen 0 0) (seenIn s)) (comes-before q ∙ ap (isOneOf beforeVerdict) e) ∙ seen-again
 
   -- an answer's number is that of the first test that fits
   pub number-is : (r : Stepped) → OffersTo st c epoch s r → getD (answerPaper (r .answer)) 0 0 ≡ firstOf tests

@@ -6,6 +6,7 @@ use Prim.Native.Nat.{ℕ}
 use Rattle.strings.specs.Number.{numberOf, paddingOf, misshapen, wordOf, flip}
 use Rattle.relative.specs.Relative.{readRelative}
 use Rattle.strings.specs.Hamming.{position, sumC, sumAll, syndrome, sumsSet, highest, placed, judge, ruling, mended}
+use Rattle.strings.specs.Calls.{soundTests}
 use Rattle.relative.specs.Known.{B, inverseB}
 use Rattle.channel.specs.Row.{emptyRow, holdsFrame}
 use Rattle.station.specs.Station.{freshStation}
@@ -25,5 +26,5 @@ abbrev pub second : List ℕ
 second = 50 ∷ 52 ∷ space ∷ 55 ∷ space ∷ 49 ∷ space ∷ 48 ∷ space ∷ 48 ∷ lineFeed ∷ []
 
 pub known : listing freshStation example ≡ first ++ (second ++ (short ++ (51 ∷ lineFeed ∷ [])))
-unfolding numberOf misshapen paddingOf wordOf flip readRelative position sumC sumAll syndrome sumsSet highest placed judge ruling mended emptyRow holdsFrame freshStation lineFor decimal lineText leftOver stationAt linesAt listing
+unfolding soundTests numberOf misshapen paddingOf wordOf flip readRelative position sumC sumAll syndrome sumsSet highest placed judge ruling mended emptyRow holdsFrame freshStation lineFor decimal lineText leftOver stationAt linesAt listing
 known = refl

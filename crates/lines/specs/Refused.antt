@@ -6,6 +6,7 @@ use mathlib.Core.List.{List, _∷_, _++_}
 use mathlib.Core.Path.{_≡_, refl}
 use Rattle.strings.specs.Number.{numberOf, paddingOf, misshapen, wordOf, flip, bytesOf, stringBytes}
 use Rattle.strings.specs.Hamming.{position, sumC, sumAll, syndrome, sumsSet, highest, placed, judge, ruling, mended, sumsMade, encode}
+use Rattle.strings.specs.Calls.{soundTests}
 use Rattle.relative.specs.Relative.{readRelative, writeRelative}
 use Rattle.relative.specs.Known.{B}
 use Rattle.channel.specs.Row.{isPresent, holdsFrame, emptyRow, newFrame, stored, heldWith, counted}
@@ -47,5 +48,5 @@ pub record Refused : Type 0 where
   pub conflict : lineFor heard (recordOf 100 otherRepaired) ≡ line 100 9 9 1
 
 pub refused : Refused
-unfolding heard numberOf paddingOf misshapen wordOf flip stringBytes readRelative writeRelative position sumC sumAll syndrome sumsSet highest placed judge ruling mended sumsMade encode isPresent holdsFrame emptyRow newFrame stored heldWith counted takenRow freshStation stationAfter lineFor
+unfolding heard soundTests numberOf paddingOf misshapen wordOf flip stringBytes readRelative writeRelative position sumC sumAll syndrome sumsSet highest placed judge ruling mended sumsMade encode isPresent holdsFrame emptyRow newFrame stored heldWith counted takenRow freshStation stationAfter lineFor
 refused = record { damaged = refl; idle = refl; number = refl; early = refl; stale = refl; off-beat = refl; conflict = refl }

@@ -11,6 +11,7 @@ use Rattle.strings.specs.declared.Refusal.the-variants.{Channel, Shape, Damaged
 use Rattle.strings.specs.Number.{numberOf, paddingOf, misshapen, wordOf, flip, stringBytes}
 use Rattle.strings.specs.Hamming.{position, sumC, sumAll, syndrome, sumsSet, highest, placed, judge, ruling, mended, sumsMade, encode}
 use Rattle.strings.specs.Numbers.{refusalPaper}
+use Rattle.strings.specs.Calls.{soundTests}
 use Rattle.relative.specs.Relative.{readRelative, writeRelative}
 use Rattle.channel.specs.declared.Answer.the-variants.{Refused}
 use Rattle.seen.specs.Seen.{seen, seenIn, comesBeforeVerdict, seenBy}
@@ -60,5 +61,5 @@ by-number Nothing = refl
 by-number Slot = refl
 
 pub known : Known
-unfolding numberOf paddingOf misshapen wordOf flip stringBytes position sumC sumAll syndrome sumsSet highest placed judge ruling mended sumsMade encode readRelative writeRelative seenIn seenBy
+unfolding soundTests numberOf paddingOf misshapen wordOf flip stringBytes position sumC sumAll syndrome sumsSet highest placed judge ruling mended sumsMade encode readRelative writeRelative seenIn seenBy
 known = record { number = refl; stale = refl; damaged = refl; idle = refl; before-verdict = by-number }

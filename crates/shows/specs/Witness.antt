@@ -6,6 +6,7 @@ use mathlib.Core.Path.{_≡_, refl}
 use Rattle.strings.specs.Number.{numberOf, paddingOf, misshapen, wordOf, flip, stringBytes}
 use Rattle.relative.specs.Relative.{readRelative}
 use Rattle.strings.specs.Hamming.{position, sumC, sumAll, syndrome, sumsSet, highest, placed, judge, ruling, mended}
+use Rattle.strings.specs.Calls.{soundTests}
 use Rattle.layout.specs.Layout.{layout}
 use Rattle.words.specs.Values.{valuesOf, firstBad}
 use Rattle.book.specs.declared.Shown.the-variants.{Nothing, At}
@@ -47,6 +48,6 @@ pub record Witness : Type 0 where
   pub pair-6-in-5 : shownAt heldIn5 6 ≡ At 21 (record { even = 0; odd = 2; day = 8766; etop = 21; otop = 0 })
 
 pub witness : Witness
-unfolding five six1 six21 seven fourteen fifteen heldIn1 heldIn5 heldUnknown numberOf paddingOf misshapen wordOf flip stringBytes readRelative position sumC sumAll syndrome sumsSet highest placed judge ruling mended layout valuesOf firstBad entryOf isGood dayOf isShown threeOf shownBy frameBy heldAfter
+unfolding five six1 six21 seven fourteen fifteen heldIn1 heldIn5 heldUnknown soundTests numberOf paddingOf misshapen wordOf flip stringBytes readRelative position sumC sumAll syndrome sumsSet highest placed judge ruling mended layout valuesOf firstBad entryOf isGood dayOf isShown threeOf shownBy frameBy heldAfter
 witness =
     record { frame-1 = refl; pair-in-1 = refl; frame-5 = refl; pair-in-5 = refl; frame-unknown = refl; pair-in-unknown = refl; pair-6-in-5 = refl }

@@ -2,25 +2,26 @@
 -- fits (station-numbers, string-numbers); and one that is refused leaves its output as it was (no-output-byte).
 -- Assumes nothing.
 use mathlib.Core.Path.{_≡_, refl, sym, ap, ap₂, _∙_}
-use mathlib.Core.Bool.{Bool, true, false}
-use mathlib.Core.List.{List, [], _∷_}
-use mathlib.Core.Logic.{_⊎_, ⊎-elim}
+use mathlib.Core.Bool.{not, true≢false}
+use mathlib.Core.List.{List, [], _∷_, _++_}
+use mathlib.Core.Logic.{_⊎_, inl, ⊎-elim}
 use Prim.Native.Nat.{ℕ}
 use native.Mathlib.Omega.{arith}
 use borrow.Author.Tests.{ne-eqb}
-use Rattle.strings.specs.Pick.{pick}
-use Rattle.strings.specs.declared.Refusal.the-variants.{Channel, Shape, Damaged as DAMAGED, Idle, Number, Range, Place, Room, Nothing, Slot}
+use lib.Dec.{eqb}
+use lib.IntN.{ℤ}
+use Rattle.strings.specs.declared.Refusal.the-variants.{Range}
 use Rattle.strings.specs.declared.Checked.{Checked}
 use Rattle.strings.specs.declared.Checked.the-variants.{Taken, Refused}
 use Rattle.strings.specs.declared.Written.{Written}
 use Rattle.strings.specs.declared.Written.the-variants.{Done, Refused as NotWritten}
 use Rattle.strings.specs.declared.hamming.Ruling.{Ruling}
 use Rattle.strings.specs.declared.hamming.Ruling.the-variants.{Sound, Damaged}
-use Rattle.strings.specs.Number.{numberOf, misshapen, stringBytes}
-use Rattle.strings.specs.Hamming.{ruling, mended}
+use Rattle.strings.specs.Number.{numberOf, stringBytes}
+use Rattle.strings.specs.Hamming.{ruling, isDamaged, mended}
 use Rattle.strings.specs.Numbers.{test, firstOf, leftBy, answerOf}
-use Rattle.strings.specs.Calls.{noRoom, checkedPaper, checkTests, verdictTold, Checks}
-use Rattle.strings.proofs.CheckRule.{check-once, check-numbers}
+use Rattle.strings.specs.Calls.{noRoom, checkedPaper, soundTests, stringTests, checkTests, verdictTold, Checks}
+use Rattle.strings.proofs.CheckRule.{check-once, check-first, check-numbers}
 use Rattle.relative.specs.Relative.{readRelative, writeRelative}
 use Rattle.relative.specs.Calls.{readingTests, ReadsRelative, writingTests, WritesRelative}
 use Rattle.relative.proofs.RelativeCode.{reads-once, writes-once, reads-exactly, writes-exactly}
@@ -29,9 +30,9 @@ use Rattle.records.specs.declared.named.Record.{Record}
 use Rattle.records.specs.Records.{kindOf, listOf, recordOf}
 use Rattle.words.specs.declared.reading.Reading.{Reading}
 use Rattle.words.specs.declared.reading.Reading.the-variants.{Read, Refused as NotRead}
-use Rattle.layout.specs.Layout.{layout, kindNumber}
+use Rattle.layout.specs.Layout.{layout, kindNumber, ofKind}
 use Rattle.words.specs.Values.{valuesOf, firstBad}
-use Rattle.words.specs.Calls.{numberIn, readTests, readingWords, Reads, writeTests, stringOf, Writes}
+use Rattle.words.specs.Calls.{numberIn, rangeTest, readTests, readingWords, Reads, writeTests, stringOf, Writes}
 use Rattle.records.proofs.RecordLists.{record-kind}
 use Rattle.words.proofs.RecordLists.{record-values}
 use Rattle.words.proofs.RoundTrips.{read-once, read-numbers, write-once, write-numbers}
@@ -56,7 +57,7 @@ use Rattle.station.proofs.Found.{one-record, no-record, one-entry, no-e
 use Rattle.station.proofs.OnceOnly.{offers-to-once, resets-once, offers-to-exactly, resets-exactly}
 use Rattle.station.proofs.QueriesOnce.{records-once, records-exactly, entries-once, entries-exactly, tallies-once, tallies-exactly, health-once, health-exactly}
 use Rattle.station.proofs.EveryHistory.{some-answer, offer-answers, reset-answer, reset-answers}
-use Rattle.station.proofs.Refusals.{Fitting, settles, taken-says, untouched}
+use Rattle.station.proofs.Refusals.{Fitting, settles-first, settles-then, settles, taken-says, untouched}
 
 -- an answer, where no second fits
 one : (A : Type 0) (Fits : A → Type 0) → ((r q : A) → Fits r → Fits q → r ≡ q) → (r : A) → Fits r → OneAnswer A Fits
@@ -81,7 +82,7 @@ module _ (st : Station) where
       (record { answer = taken-says ts [] z; words = λ w q. sym (one-record q) }))
       (λ (f : Fitting ts).
       one RecordFound (FindsRecord st c) (records-once st c) (NoRecord (f .refusal)) (record { answer = f .says []; words = λ w q. no-record q }))
-      (settles ts (Channel ∷ Nothing ∷ []) ((0, (refl, refl)), ((12, (refl, refl)), tt)))
+      (settles ts tt)
 
   entry-one : (slot : ℕ) → OneAnswer EntryFound (FindsEntry st slot)
   entry-one slot =
@@ -93,7 +94,7 @@ module _ (st : Station) where
       (λ (f : Fitting ts).
       one EntryFound (FindsEntry st slot) (entries-once st slot) (NoEntry (f .refusal))
       (record { answer = f .says (threeNumbers (meaning e)); entry = λ d q. no-entry q }))
-      (settles ts (Slot ∷ Nothing ∷ []) ((13, (refl, refl)), ((12, (refl, refl)), tt)))
+      (settles ts tt)
 
   tallies-one : (c : ℕ) → OneAnswer TalliesFound (FindsTallies st c)
   unfolding FindsTallies
@@ -103,7 +104,7 @@ module _ (st : Station) where
       ⊎-elim
       (λ (z : firstOf ts ≡ 0). one TalliesFound (FindsTallies st c) (tallies-once st c) (FoundTallies t) (taken-says ts (fourCounts t) z))
       (λ (f : Fitting ts). one TalliesFound (FindsTallies st c) (tallies-once st c) (NoTallies (f .refusal)) (f .says (fourCounts t)))
-      (settles ts (Channel ∷ []) ((0, (refl, refl)), tt))
+      (settles ts tt)
 
   health-one : (c : ℕ) → OneAnswer HealthFound (FindsHealth st c)
   unfolding FindsHealth
@@ -113,7 +114,7 @@ module _ (st : Station) where
       ⊎-elim
       (λ (z : firstOf ts ≡ 0). one HealthFound (FindsHealth st c) (health-once st c) (FoundHealth h) (taken-says ts (healthNumber h ∷ []) z))
       (λ (f : Fitting ts). one HealthFound (FindsHealth st c) (health-once st c) (NoHealth (f .refusal)) (f .says (healthNumber h ∷ [])))
-      (settles ts (Channel ∷ []) ((0, (refl, refl)), tt))
+      (settles ts tt)
 
   -- EVERY CALL ANSWERS, of any station
   pub station-answers : StationAnswers st
@@ -136,22 +137,17 @@ module _ (st : Station) where
 pair : {A : Type 0} {a b : A} {l m : List ℕ} → (a ≡ b) × (l ≡ m) → _≡_ {A = A × List ℕ} (a, l) (b, m)
 pair e = ap₂ (λ x y. (x, y)) (e .0) (e .1)
 
--- a string that no test of the check fits has a verdict
-no-three : (a b : Bool) → _≡_ {A = ℕ} (pick a 12 (pick b 2 3)) 0 → ⊥
-no-three true b z = omega arith
-no-three false true z = omega arith
-no-three false false z = omega arith
-
 module _ (s out : List ℕ) where
+  -- a string that no test of the check fits has a verdict
   verdict-there : firstOf (checkTests s out) ≡ 0 → (r : Checked) × (checkedPaper r ≡ 0 ∷ verdictTold (ruling (numberOf s)))
   verdict-there z = by (ruling (numberOf s)) refl
     where
       by : (u : Ruling) → ruling (numberOf s) ≡ u → (r : Checked) × (checkedPaper r ≡ 0 ∷ verdictTold u)
       by (Sound v) q = (Taken v, refl)
-      by (Damaged d) q = absurd (no-three (noRoom out) (misshapen s) (rw q at z))
+      by (Damaged d) q = absurd (true≢false (sym (ap isDamaged q) ∙ check-first s out z .1 .sound))
 
   check-one : OneAnswer (Checked × List ℕ) (λ r. Checks s out (r .0) (r .1))
-  unfolding Checks
+  unfolding Checks soundTests
   check-one =
       let ts = checkTests s out in
       let told = verdictTold (ruling (numberOf s)) in
@@ -160,7 +156,7 @@ module _ (s out : List ℕ) where
       λ r e. one (Checked × List ℕ) (λ r. Checks s out (r .0) (r .1)) (λ r q a b. pair (check-once s out (r .0) (q .0) (r .1) (q .1) a b)) (r, left) (record { answer = e; output = refl })
       in
       ⊎-elim (λ (z : firstOf ts ≡ 0). let v = verdict-there z in so (v .0) (v .1 ∙ taken-says ts told z)) (λ (f : Fitting ts). so (Refused (f .refusal)) (f .says told))
-      (settles ts (Room ∷ Shape ∷ DAMAGED ∷ Idle ∷ []) ((11, (refl, refl)), ((1, (refl, refl)), ((2, (refl, refl)), ((3, (refl, refl)), tt)))))
+      (settles ts tt)
 
   reading-one : OneAnswer (Written × List ℕ) (λ r. ReadsRelative s out (r .0) (r .1))
   unfolding ReadsRelative
@@ -171,7 +167,7 @@ module _ (s out : List ℕ) where
       λ r e. one (Written × List ℕ) (λ r. ReadsRelative s out (r .0) (r .1)) (λ r q a b. pair (reads-once s out (r .0) (r .1) (q .0) (q .1) a b)) (r, left) (record { answer = e; output = refl })
       in
       ⊎-elim (λ (z : firstOf ts ≡ 0). so Done (taken-says ts [] z)) (λ (f : Fitting ts). so (NotWritten (f .refusal)) (f .says []))
-      (settles ts (Room ∷ Shape ∷ []) ((11, (refl, refl)), ((1, (refl, refl)), tt)))
+      (settles ts tt)
 
   sending-one : OneAnswer (Written × List ℕ) (λ r. WritesRelative s out (r .0) (r .1))
   unfolding WritesRelative
@@ -182,10 +178,16 @@ module _ (s out : List ℕ) where
       λ r e. one (Written × List ℕ) (λ r. WritesRelative s out (r .0) (r .1)) (λ r q a b. pair (writes-once s out (r .0) (r .1) (q .0) (q .1) a b)) (r, left) (record { answer = e; output = refl })
       in
       ⊎-elim (λ (z : firstOf ts ≡ 0). so Done (taken-says ts [] z)) (λ (f : Fitting ts). so (NotWritten (f .refusal)) (f .says []))
-      (settles ts (Room ∷ Shape ∷ Idle ∷ []) ((11, (refl, refl)), ((1, (refl, refl)), ((3, (refl, refl)), tt))))
+      (settles ts tt)
+
+-- RANGE says its place
+range-settles : (zs : List ℤ) (k : Kind) → (firstOf (rangeTest zs k ∷ []) ≡ 0) ⊎ Fitting (rangeTest zs k ∷ [])
+range-settles zs k =
+    let p = firstBad (layout k) zs in
+    settles-first (Range p) 10 (p ∷ []) (not (eqb p 0)) [] refl (inl refl)
 
 read-one : (s : List ℕ) (k : Kind) → OneAnswer Reading (Reads s k)
-unfolding Reads readingWords
+unfolding Reads readingWords soundTests
 read-one s k =
     let n = mended (numberOf s) in
     let ts = readTests s k in
@@ -199,8 +201,7 @@ read-one s k =
     }))
     (λ (f : Fitting ts).
     one Reading (Reads s k) (read-once s k) (NotRead (f .refusal)) (record { answer = f .says (numberIn n ∷ kindNumber k ∷ []); words = rw (ne-eqb (firstOf ts) 0 (λ e. omega (arith, f .first, e))) }))
-    (settles ts (Shape ∷ DAMAGED ∷ Idle ∷ Number ∷ Place ∷ Range (firstBad (layout k) zs) ∷ [])
-    ((1, (refl, refl)), ((2, (refl, refl)), ((3, (refl, refl)), ((4, (refl, refl)), ((10, (refl, refl)), ((9, (refl, refl)), tt)))))))
+    (settles-then (stringTests s ++ (test 5 (eqb (numberIn n) 0) ∷ test 11 (not (ofKind k (numberIn n))) ∷ [])) (rangeTest zs k ∷ []) tt (range-settles zs k))
 
 write-one : (m : ℕ) (w : Record) (out : List ℕ) → OneAnswer (Written × List ℕ) (λ r. Writes m w out (r .0) (r .1))
 unfolding Writes
@@ -211,7 +212,7 @@ write-one m w out =
     λ r e. one (Written × List ℕ) (λ r. Writes m w out (r .0) (r .1)) (λ r q a b. pair (write-once m w out (r .0) (q .0) (r .1) (q .1) a b)) (r, left) (record { answer = e; output = refl })
     in
     ⊎-elim (λ (z : firstOf ts ≡ 0). so Done (taken-says ts [] z)) (λ (f : Fitting ts). so (NotWritten (f .refusal)) (f .says []))
-    (settles ts (Room ∷ Place ∷ Range (firstBad (layout (kindOf w)) (listOf w)) ∷ []) ((11, (refl, refl)), ((10, (refl, refl)), ((9, (refl, refl)), tt))))
+    (settles-then (test 12 (noRoom out) ∷ test 11 (not (ofKind (kindOf w) m)) ∷ []) (rangeTest (listOf w) (kindOf w) ∷ []) tt (range-settles (listOf w) (kindOf w)))
 
 -- EVERY CALL ANSWERS, of any bytes and any record
 pub strings-answer : StringsAnswer

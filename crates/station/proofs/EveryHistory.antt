@@ -6,14 +6,14 @@ use mathlib.Core.Bool.{Bool, true, false}
 use mathlib.Core.List.{List, [], _∷_}
 use mathlib.Core.Logic.{⊎-elim}
 use Prim.Native.Nat.{ℕ}
+use lib.Dec.{T}
 use Rattle.strings.specs.Pick.{pick}
-use Rattle.strings.specs.declared.Refusal.{Refusal}
-use Rattle.strings.specs.declared.Refusal.the-variants.{Channel, Shape, Damaged, Idle, Number, Early, Stale, OffBeat, Conflict}
+use Rattle.strings.specs.declared.Refusal.the-variants.{Channel}
 use Rattle.strings.specs.declared.Verdict.{Verdict}
 use Rattle.strings.specs.declared.Written.{Written}
 use Rattle.strings.specs.declared.Written.the-variants.{Done, Refused as NotWritten}
 use Rattle.strings.specs.Numbers.{Test, test, firstOf, answerOf}
-use Rattle.strings.specs.Calls.{writtenPaper}
+use Rattle.strings.specs.Calls.{writtenPaper, soundTests}
 use Rattle.words.specs.Calls.{numberIn}
 use Rattle.channel.specs.declared.News.{News}
 use Rattle.channel.specs.declared.Answer.{Answer}
@@ -24,47 +24,23 @@ use Rattle.channel.specs.Offers.{answerPaper, toldAs}
 use Rattle.station.specs.declared.Station.{Station}
 use Rattle.station.specs.Station.{heldAt, isNoChannel, stationTests, toldIn, stationAfter, OffersTo, stationReset, Resets}
 use Rattle.station.specs.History.{Call, Offer, Reset, Runs, fresh, offering, resetting, stationOf}
-use Rattle.station.proofs.Refusals.{Matched, Fitting, settles, taken-says}
+use Rattle.station.proofs.Refusals.{named, Fitting, settles, taken-says}
 
 -- an answer that such tests give
 pub record Told (ts : List Test) (told : List ℕ) : Type 0 where
   pub answer : Answer
   pub is : answerPaper answer ≡ answerOf ts told
 
-told-by : (m : ℕ) (v : Verdict) (w : News) (ts : List Test) (qs : List Refusal) → Matched ts qs → Told ts (toldAs m v w)
-told-by m v w ts qs a =
+told-by : (m : ℕ) (v : Verdict) (w : News) (ts : List Test) → T (named ts) → Told ts (toldAs m v w)
+told-by m v w ts a =
     ⊎-elim (λ (z : firstOf ts ≡ 0). record { answer = Taken m v w; is = taken-says ts (toldAs m v w) z })
-    (λ (f : Fitting ts). record { answer = Refused (f .refusal); is = f .says (toldAs m v w) }) (settles ts qs a)
+    (λ (f : Fitting ts). record { answer = Refused (f .refusal); is = f .says (toldAs m v w) }) (settles ts a)
 
 -- ---- an offer has an answer, and so has a reset
 pub some-answer : (st : Station) (c epoch : ℕ) (s : List ℕ) → Told (stationTests st c epoch s) (toldIn st c epoch s)
+unfolding soundTests
 some-answer st c epoch s =
-    told-by (numberIn (wholeOf s)) (verdictIn s) (newsOf (heldAt st c) epoch (wholeOf s)) (stationTests st c epoch s)
-    (Channel ∷ Shape ∷ Damaged ∷ Idle ∷ Number ∷ Early ∷ Stale ∷ OffBeat ∷ Conflict ∷ []) (
-      (0, (refl, refl)),
-      (
-        (1, (refl, refl)),
-        (
-          (2, (refl, refl)),
-          (
-            (3, (refl, refl)),
-            (
-              (4, (refl, refl)),
-              (
-                (5, (refl, refl)),
-                (
-                  (6, (refl, refl)),
-                  (
-                    (7, (refl, refl)),
-                    ((8, (refl, refl)), tt),
-                  ),
-                ),
-              ),
-            ),
-          ),
-        ),
-      ),
-    )
+    told-by (numberIn (wholeOf s)) (verdictIn s) (newsOf (heldAt st c) epoch (wholeOf s)) (stationTests st c epoch s) tt
 
 pub offer-answers : (st : Station) (c epoch : ℕ) (s : List ℕ)
     → OffersTo st c epoch s (record { station = stationAfter st c epoch s; answer = some-answer st c epoch s .answer })

@@ -6,7 +6,7 @@ use mathlib.Core.List.{List, [], _∷_}
 use Prim.Native.Nat.{ℕ}
 use Rattle.strings.specs.declared.Written.{Written}
 use Rattle.strings.specs.Numbers.{test, firstOf, leftBy, Exactly}
-use Rattle.strings.specs.Calls.{writtenPaper}
+use Rattle.strings.specs.Calls.{writtenPaper, soundTests}
 use Rattle.strings.proofs.Answer.{written-same, exactly}
 use Rattle.channel.specs.declared.Answer.{Answer}
 use Rattle.channel.specs.Offers.{answerPaper}
@@ -30,6 +30,7 @@ resets-once st c r q a b =
 -- "The first that fits is given, and given only then"
 pub offers-to-exactly : (st : Station) (c epoch : ℕ) (s : List ℕ) (r : Stepped) → OffersTo st c epoch s r
     → Exactly (stationTests st c epoch s) (answerPaper (r .answer))
+unfolding soundTests
 offers-to-exactly st c epoch s r a =
     exactly tt (record { answer = a .answer; output = refl {a = leftBy (firstOf (stationTests st c epoch s)) [] []} })
 

@@ -16,27 +16,30 @@ use Rattle.strings.specs.declared.Verdict.the-variants.{Clean, Repaired}
 use Rattle.strings.specs.declared.hamming.Ruling.the-variants.{Sound}
 use Rattle.strings.specs.Number.{bitOf, misshapen, flip}
 use Rattle.strings.specs.Hamming.{ruling, isDamaged}
-use Rattle.strings.specs.Numbers.{verdictPaper, firstOf}
+use Rattle.strings.specs.Numbers.{verdictPaper, firstOf, placeOf}
 use Rattle.strings.specs.Calls.{isIdle}
 use Rattle.strings.proofs.Digits.{flip-lt, flip-undo}
 use Rattle.strings.proofs.Value.{string-number}
 use Rattle.strings.proofs.Shape.{string-shaped}
 use Rattle.strings.proofs.Judge.{mended-by}
+use Rattle.strings.proofs.SoundTests.{damaged-says}
 use Rattle.strings.proofs.Flips.{encoded-ruling, one-flip-ruling, bit-8-ruling, two-flips-ruling}
 use Rattle.relative.specs.Relative.{writeRelative, readRelative, inverse}
 use Rattle.relative.proofs.RelativeCode.{read-written, written-lt, inverse-lt, inverse-alike}
-use Rattle.hearing.specs.Hears.{plainOf, wholeOf}
+use Rattle.hearing.specs.Hears.{plainOf, wholeOf, hearTests}
+use Rattle.hearing.proofs.Hearing.{heard-then}
 use Rattle.book.specs.declared.Book.{Book}
 use Rattle.tallies.specs.Tallies.{afterOffer}
 use Rattle.tallies.specs.Tallies.Outcome.{Taken}
 use Rattle.channel.specs.declared.Row.{Row}
+use Rattle.channel.specs.Frame.{placeTests}
 use Rattle.channel.specs.Row.{holdsFrame, frameOf, counted}
 use Rattle.channel.specs.Offers.{answerPaper, offerTests, takenRow, offeredRow}
 use Rattle.shows.specs.Shows.{showsOf, brought}
 use Rattle.station.specs.declared.Station.{Station}
 use Rattle.station.specs.declared.Stepped.{Stepped}
 use Rattle.station.specs.declared.TalliesFound.{TalliesFound}
-use Rattle.station.specs.Station.{noRow, rowAt, isNoChannel, bookAfter, stationAfter, OffersTo}
+use Rattle.station.specs.Station.{noRow, rowAt, heldAt, isNoChannel, toldIn, bookAfter, stationAfter, OffersTo}
 use Rattle.station.specs.Queries.{fourCounts, talliesPaper, FindsTallies}
 use Rattle.station.specs.Sent.{SentString, mOf, SentAs, IsBit, Awaits, talliesAt, SameButVerdict, HeardAsSent}
 
@@ -101,7 +104,8 @@ is-served c l = le-ltb 23 c l
 -- ---- DAMAGED, whatever the channel holds
 damaged : (st : Station) (c epoch k : ℕ) (s : List ℕ) (r : Stepped) → c ≤ 23 → k < 2 ^ 84 → isDamaged (ruling k) ≡ true → SentAs k s
     → OffersTo st c epoch s r → answerPaper (r .answer) ≡ 3 ∷ []
-damaged st c epoch k s r l h d e o = o .answer ∙ rw (is-served c l, sent-shaped k s h e, sent-plain k s h e, d)
+damaged st c epoch k s r l h d e o =
+    o .answer ∙ rw (is-served c l, sent-shaped k s h e) (damaged-says (plainOf s) (ap (λ (x : ℕ). isDamaged (ruling x)) (sent-plain k s h e) ∙ d) (placeTests (heldAt st c) epoch (wholeOf s)) (toldIn st c epoch s))
 
 -- ---- bytes that the check leaves as n with the verdict v, where their channel awaits that string
 module _ (st : Station) (c epoch n : ℕ) (a : Awaits st c epoch n) (idle : bitOf n 85 ≡ 0) (s : List ℕ) (v : Verdict) (w : LeftAs s n v) where
@@ -121,13 +125,18 @@ module _ (st : Station) (c epoch n : ℕ) (a : Awaits st c epoch n) (idle : bitO
   in-time : ltb epoch (mOf n - 1) ≡ false
   in-time = le-ltb epoch (mOf n - 1) (a .not-early)
 
+  -- 2 to 4 let it pass
+  passes : let ts = placeTests (frameOf row) epoch (wholeOf s) in (firstOf (hearTests s ++ ts) ≡ firstOf ts) × (placeOf (hearTests s ++ ts) ≡ placeOf ts)
+  passes =
+      heard-then s (placeTests (frameOf row) epoch (wholeOf s)) (w .shape) (record { sound = ap isDamaged (w .rules); idle = ap isIdle (w .whole) ∙ not-idle })
+
   -- taken, and kept
   taken : (r : Stepped) → OffersTo st c epoch s r → answerPaper (r .answer) ≡ 0 ∷ mOf n ∷ (verdictPaper v ++ (1 ∷ []))
-  taken r o = o .answer ∙ rw (is-served c (a .served), w .shape, w .rules, w .whole, not-idle, not-zero, in-time, holds-none, not-four (mOf n))
+  taken r o = o .answer ∙ rw (is-served c (a .served), passes .0, passes .1, w .rules, w .whole, not-zero, in-time, holds-none, not-four (mOf n))
 
   -- the row and the book that it leaves
   clear : firstOf (offerTests (frameOf row) epoch s) ≡ 0
-  clear = rw (w .shape, w .rules, w .whole, not-idle, not-zero, in-time, holds-none)
+  clear = passes .0 ∙ rw (w .whole, not-zero, in-time, holds-none)
 
   abbrev next : Row
   next = counted (Taken v) (takenRow row epoch n)

@@ -13,6 +13,7 @@ use Rattle.strings.specs.Number.{numberOf, paddingOf, misshapen, wordOf, flip, 
 use Rattle.relative.specs.Relative.{readRelative, writeRelative, inverse}
 use Rattle.strings.specs.Hamming.{position, sumC, sumAll, syndrome, sumsSet, highest, placed, judge, ruling, mended, encode}
 use Rattle.strings.specs.Numbers.{firstOf, answerOf}
+use Rattle.strings.specs.Calls.{soundTests}
 use Rattle.strings.specs.Known.{A, zeros, a, known as strings-known}
 use Rattle.relative.specs.Known.{B, inverseB, known as relative-known}
 use Rattle.records.specs.declared.kinds.Kind.{Kind}
@@ -70,11 +71,11 @@ pub record KnownStrings : Type 0 where
 
 -- the two rows that no lower table has
 B-inverted-so : stringBytes (inverse (numberOf B)) ≡ inverseB
-unfolding numberOf stringBytes inverse
+unfolding soundTests numberOf stringBytes inverse
 B-inverted-so = refl
 
 zeros-offered-so : (c epoch : ℕ) → isNoChannel c ≡ false → answerOf (stationTests freshStation c epoch zeros) (toldIn freshStation c epoch zeros) ≡ 5 ∷ []
-unfolding numberOf paddingOf misshapen wordOf readRelative position sumC sumAll syndrome sumsSet highest placed judge ruling mended
+unfolding soundTests numberOf paddingOf misshapen wordOf readRelative position sumC sumAll syndrome sumsSet highest placed judge ruling mended
 zeros-offered-so c epoch served = rw served refl
 
 pub known-strings : KnownStrings

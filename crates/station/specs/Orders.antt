@@ -5,6 +5,7 @@ use Prim.Native.Nat.{ℕ}
 use mathlib.Core.List.{List, [], _∷_}
 use mathlib.Core.Path.{_≡_, refl}
 use Rattle.strings.specs.Numbers.{numbersOf}
+use Rattle.strings.specs.Calls.{soundTests}
 use Rattle.station.specs.declared.Station.{Station}
 use Rattle.station.specs.Station.{channelTests, stationTests}
 use Rattle.station.specs.Queries.{recordTests, entryTests}
@@ -19,4 +20,5 @@ pub record Orders : Type 0 where
   pub entry : (st : Station) (slot : ℕ) → numbersOf (entryTests st slot) ≡ 14 ∷ 13 ∷ []
 
 pub orders : Orders
+unfolding soundTests
 orders = record { offer = λ st c epoch s. refl; channel = λ c. refl; immediate = λ st c. refl; entry = λ st slot. refl }

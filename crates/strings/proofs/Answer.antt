@@ -16,7 +16,7 @@ use Rattle.strings.specs.declared.Written.the-variants.{Done, Refused as
 use Rattle.strings.specs.declared.Checked.{Checked}
 use Rattle.strings.specs.declared.Checked.the-variants.{Taken, Refused as NotTaken}
 use Rattle.strings.specs.Pick.{pick}
-use Rattle.strings.specs.Numbers.{refusalPaper, verdictPaper, Test, firstOf, placeOf, saidBy, leftBy, Answers, numberAt, FitsAt, Exactly}
+use Rattle.strings.specs.Numbers.{refusalPaper, verdictPaper, Test, firstOf, placeOf, saidBy, answerOf, leftBy, Answers, numberAt, FitsAt, Exactly}
 use Rattle.strings.specs.Calls.{writtenPaper, checkedPaper}
 use Rattle.strings.proofs.Below.{and-left, and-right}
 
@@ -42,7 +42,7 @@ module _ {told made out : List ℕ} where
   same-answer a b = (a .answer ∙ sym (b .answer), a .output ∙ sym (b .output))
 
 -- a refusal is known by its numbers
-abbrev refusalOf : List ℕ → Refusal
+abbrev pub refusalOf : List ℕ → Refusal
 refusalOf l =
     let n = getD l 0 0 in
     pick (eqb n 1) Channel (pick (eqb n 2) Shape (pick (eqb n 3) Damaged (pick (eqb n 4) Idle (pick (eqb n 5) Number (pick (eqb n 6) Early
@@ -222,11 +222,13 @@ exactly {ts} {told} a r =
       taken = ((λ q. given-none ts a (sym e ∙ q)), (λ q. e ∙ none-given-there ts q));
     }
 
+-- an answer begins with the number that is given
+pub first-given : (ts : List Test) (told : List ℕ) {n : ℕ} {l : List ℕ} → n ∷ l ≡ answerOf ts told → firstOf ts ≡ n
+first-given ts told e = sym (ap (λ (l : List ℕ). getD l 0 0) e ∙ said-number (firstOf ts) (placeOf ts) told)
+
 -- what is taken leaves what it makes
 pub taken-made : {ts : List Test} {told made out out′ : List ℕ} (l : List ℕ) → Answers ts told made out (0 ∷ l) out′ → out′ ≡ made
-taken-made {ts} {told} {made} {out} l a =
-    let z : firstOf ts ≡ 0 = sym (ap (λ (l : List ℕ). getD l 0 0) (a .answer) ∙ said-number (firstOf ts) (placeOf ts) told) in
-    a .output ∙ ap (λ (k : ℕ). leftBy k made out) z
+taken-made {ts} {told} {made} {out} l a = a .output ∙ ap (λ (k : ℕ). leftBy k made out) (first-given ts told (a .answer))
 
 -- "Refusals leave outputs untouched"
 left-untouched : (k : ℕ) (made out : List ℕ) → (k ≡ 0 → ⊥) → leftBy k made out ≡ out

@@ -1,14 +1,14 @@
 -- What the public check answers and writes, over its answers and bytes: for an encoded string, for the same with one or two bits flipped, and for
 -- what it has written itself. That no second answer fits; that each number is given exactly where it belongs.
 -- Assumes nothing.
-use mathlib.Core.Path.{_≡_, refl, _∙_, sym, ap, subst}
-use mathlib.Core.Bool.{true}
+use mathlib.Core.Path.{_≡_, _∙_, sym, ap, subst}
+use mathlib.Core.Bool.{true, false}
 use mathlib.Core.List.{List}
 use Prim.Native.Nat.{ℕ, _^_, _≤_, _<_}
 use native.Mathlib.Omega.{arith}
 use borrow.Author.Tests.{eq-eqb, eqb-false}
-use lib.Dec.{eqb, lit<}
-use lib.ListN.{length}
+use lib.Dec.{eqb}
+use lib.ListN.{length, drop}
 use Rattle.strings.specs.declared.Refusal.{Refusal}
 use Rattle.strings.specs.declared.Refusal.the-variants.{Damaged as DAMAGED, Idle}
 use Rattle.strings.specs.declared.Verdict.{Verdict}
@@ -18,13 +18,14 @@ use Rattle.strings.specs.declared.Checked.the-variants.{Taken, Refused}
 use Rattle.strings.specs.declared.hamming.Ruling.the-variants.{Sound}
 use Rattle.strings.specs.Number.{Bytes, numberOf, misshapen, bitOf, flip, stringBytes}
 use Rattle.strings.specs.Hamming.{ruling, isDamaged, mended, mendedBy, Encoded, Whole}
-use Rattle.strings.specs.Numbers.{verdictPaper, Exactly, FitsAt}
-use Rattle.strings.specs.Calls.{Checks, checkTests, checkedPaper, isIdle}
-use Rattle.strings.proofs.Below.{unfit}
+use Rattle.strings.specs.Numbers.{verdictPaper, firstOf, Exactly}
+use Rattle.strings.specs.Calls.{Checks, soundTests, checkTests, checkedPaper, verdictTold, noRoom, isIdle}
 use Rattle.strings.proofs.Digits.{bit-lt, flip-lt, flip-undo}
 use Rattle.strings.proofs.Value.{number-lt, string-number}
 use Rattle.strings.proofs.Shape.{shaped, string-shaped}
-use Rattle.strings.proofs.Answer.{same-answer, checked-same, exactly, taken-made, refused-left}
+use Rattle.strings.proofs.Answer.{same-answer, checked-same, exactly, first-given, taken-made, refused-left}
+use Rattle.strings.proofs.Tests.{past-first}
+use Rattle.strings.proofs.SoundTests.{IsSound, sound-alone}
 use Rattle.strings.proofs.CheckAnswers.{check-damaged, check-idle, check-taken}
 use Rattle.strings.proofs.Judge.{mended-lt}
 use Rattle.strings.proofs.Flips.{encoded-ruling, one-flip-ruling, bit-8-ruling, two-flips-ruling, left-encoded}
@@ -35,13 +36,24 @@ module _ (s out : List ℕ) where
   unfolding Checks
   check-once r q out′ out″ a b = let e = same-answer a b in (checked-same r q (e .0), e .1)
 
+  -- where no test fits, the bytes have the shape of a string, which is neither damaged nor idle
+  pub check-first : firstOf (checkTests s out) ≡ 0 → (misshapen s ≡ false) × IsSound (numberOf s)
+  check-first e =
+      let p = past-first 11 (noRoom out) (drop 1 (checkTests s out)) e in
+      let q = past-first 1 (misshapen s) (drop 2 (checkTests s out)) (p .1) in
+      (q .0, sound-alone (numberOf s) (q .1))
+
+  pub check-took : (v : Verdict) (out′ : List ℕ) → Checks s out (Taken v) out′ → (misshapen s ≡ false) × IsSound (numberOf s)
+  unfolding Checks
+  check-took v out′ a = check-first (first-given (checkTests s out) (verdictTold (ruling (numberOf s))) (a .answer))
+
   -- "Refusals leave outputs untouched"
   pub check-untouched : (q : Refusal) (out′ : List ℕ) → Checks s out (Refused q) out′ → out′ ≡ out
   unfolding Checks
   check-untouched q out′ a = refused-left q a
 
   pub check-numbers : (r : Checked) (out′ : List ℕ) → Checks s out r out′ → Exactly (checkTests s out) (checkedPaper r)
-  unfolding Checks
+  unfolding Checks soundTests
   check-numbers r out′ a = exactly tt a
 
 -- ---- the answer for the bytes of a string, by its ruling and its idle bit
@@ -106,20 +118,18 @@ module _ (n : ℕ) (h : n < 2 ^ 85) (v : Encoded n) (out : List ℕ) (room : len
 
 -- ---- whatever the check writes is encoded and has its idle bit at 0; and checking it again is clean
 module _ (s : List ℕ) (b : Bytes s) (out : List ℕ) (v : Verdict) (out′ : List ℕ) (a : Checks s out (Taken v) out′) where
-  clear : (j : ℕ) → j < 4 → FitsAt (checkTests s out) j → ⊥
-  clear = check-numbers s out (Taken v) out′ a .taken .0 refl
-
   pub written-whole : Whole out′
   unfolding Checks
   written-whole =
       let n = numberOf s in
-      let len = shaped s (unfit (misshapen s) (clear 1 (lit< tt))) .0 in
+      let c = check-took s out v out′ a in
+      let len = shaped s (c .0) .0 in
       record {
         number = mended n;
         small = mended-lt n (number-lt s b len);
         bytes = taken-made (verdictPaper v) a;
-        encoded = left-encoded n (unfit (isDamaged (ruling n)) (clear 2 (lit< tt)));
-        idle = omega (arith, bit-lt (mended n) 85, eqb-false (bitOf (mended n) 85) 1 (unfit (isIdle (mended n)) (clear 3 (lit< tt))));
+        encoded = left-encoded n (c .1 .sound);
+        idle = omega (arith, bit-lt (mended n) 85, eqb-false (bitOf (mended n) 85) 1 (c .1 .idle));
       }
 
   pub checked-again : (again : List ℕ) (q : Checked) (again′ : List ℕ) → length again ≡ 11 → Checks out′ again q again′ → (q ≡ Taken Clean) × (again′ ≡ out′)

@@ -4,6 +4,8 @@ pub mod WordOf
 pub mod Value
 pub mod Shape
 pub mod Answer
+pub mod Tests
+pub mod SoundTests
 pub mod Sums
 pub mod Fold
 pub mod Judge

@@ -33,9 +33,14 @@ abbrev pub checkedPaper : Checked → List ℕ
 checkedPaper (Taken v) = 0 ∷ verdictPaper v
 checkedPaper (Refused r) = refusalPaper r
 
--- ---- 2, 3, 4 of a plain string: "After a repair bit 85 must be 0, else IDLE"
+-- ---- 3, 4 of a plain string: "After a repair bit 85 must be 0, else IDLE". The check, the reader and the offer all make these tests, each with
+-- tests of its own before and after them
+unfoldable pub soundTests : ℕ → List Test
+soundTests n = test 3 (isDamaged (ruling n)) ∷ test 4 (isIdle (mended n)) ∷ []
+
+-- ---- 2, 3, 4 of its bytes
 abbrev pub stringTests : List ℕ → List Test
-stringTests s = test 2 (misshapen s) ∷ test 3 (isDamaged (ruling (numberOf s))) ∷ test 4 (isIdle (mended (numberOf s))) ∷ []
+stringTests s = test 2 (misshapen s) ∷ soundTests (numberOf s)
 
 -- ---- "Check: 12, 2, 3, 4"
 abbrev pub checkTests : List ℕ → List ℕ → List Test

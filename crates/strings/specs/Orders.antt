@@ -8,7 +8,7 @@ use Rattle.strings.specs.declared.Refusal.the-variants.{Channel, Shape, 
 use Rattle.strings.specs.declared.Verdict.the-variants.{Clean, Repaired}
 use Rattle.strings.specs.Table413.{_to_}
 use Rattle.strings.specs.Numbers.{refusalPaper, verdictPaper, numbersOf}
-use Rattle.strings.specs.Calls.{stringTests, checkTests}
+use Rattle.strings.specs.Calls.{soundTests, stringTests, checkTests}
 
 -- the names in the order of the paper's table; RANGE tells a place
 abbrev pub refusals : ℕ → List Refusal
@@ -34,8 +34,10 @@ verdict-numbers i = refl
 
 -- "Check: 12, 2, 3, 4"
 pub check-order : (s out : List ℕ) → numbersOf (checkTests s out) ≡ 12 ∷ 2 ∷ 3 ∷ 4 ∷ []
+unfolding soundTests
 check-order s out = refl
 
 -- of a plain string alone: 2, 3, 4
 pub string-order : (s : List ℕ) → numbersOf (stringTests s) ≡ 2 ∷ 3 ∷ 4 ∷ []
+unfolding soundTests
 string-order s = refl

@@ -3,7 +3,7 @@
 -- Assumes nothing.
 use mathlib.Core.Path.{_≡_, refl, sym, ap, ap₂, _∙_, subst}
 use mathlib.Core.Bool.{Bool, true, false, not, _&&_, _||_, true≢false, Bool·beq}
-use mathlib.Core.List.{List, [], _∷_}
+use mathlib.Core.List.{List, [], _∷_, _++_}
 use mathlib.Core.Logic.{_↔_, _⊎_, inl, inr, ⊎-elim}
 use Prim.Native.Nat.{ℕ, zero, suc, _+_, _-_, _*_, _/_, _%_, _^_, _≤_, _<_, suc-le-suc}
 use native.Mathlib.Nat.{le-of-suc-le-suc, not-suc-le-zero, zero-lt-suc, lt-of-lt-of-le}
@@ -11,16 +11,20 @@ use native.Mathlib.Omega.{arith}
 use borrow.Author.Tests.{lt-ltb, le-leb, not-true, eqb-false, ltb-true, ltb-false}
 use lib.Dec.{T, eqb, leb, ltb, lit<, eqb→eq}
 use lib.IntN.{ℤ, pos, negsuc, negℤ, natAbs, sucℤ, predℤ}
-use lib.ListN.{length, getD}
+use lib.ListN.{length, getD, drop}
 use lib.Pow.{pow-pos, pow-mono}
 use lib.Signed.{leZ}
 use Rattle.strings.specs.Pick.{pick}
 use Rattle.strings.specs.declared.Refusal.the-variants.{Range}
 use Rattle.strings.specs.declared.Written.the-variants.{Refused as NotWritten}
 use Rattle.strings.specs.Number.{numberOf, misshapen, wordOf}
-use Rattle.strings.specs.Hamming.{ruling, isDamaged, mended}
-use Rattle.strings.specs.Calls.{noRoom, isIdle}
+use Rattle.strings.specs.Hamming.{mended}
+use Rattle.strings.specs.Numbers.{Test, firstOf}
+use Rattle.strings.specs.Calls.{noRoom, soundTests}
 use Rattle.strings.proofs.Below.{and-left, and-right, below, below-at, unfit, both}
+use Rattle.strings.proofs.Answer.{first-given}
+use Rattle.strings.proofs.Tests.{past-other, allOf, first-fits}
+use Rattle.strings.proofs.SoundTests.{sound-else, sound-then}
 use Rattle.layout.specs.declared.table.Form.{Form}
 use Rattle.layout.specs.declared.table.Form.the-variants.{Plain, Signed, Time, Interval, Day, Slot, Carrier}
 use Rattle.layout.specs.declared.table.Word.{Word}
@@ -28,11 +32,11 @@ use Rattle.records.specs.declared.kinds.Kind.{Kind}
 use Rattle.records.specs.declared.kinds.Kind.the-variants.{One, Two, Three, Four, Five, Even, Odd, Fourteen}
 use Rattle.records.specs.declared.named.Record.{Record}
 use Rattle.words.specs.declared.reading.Reading.the-variants.{Refused}
-use Rattle.layout.specs.Layout.{layout, none, word, ofKind}
+use Rattle.layout.specs.Layout.{layout, none, word, kindNumber, ofKind}
 use Rattle.words.specs.Signed.{signedAt}
 use Rattle.words.specs.Values.{valueIn, leastOf, mostOf, isTime, isTk, inRange, valuesOf, firstBad}
 use Rattle.records.specs.Records.{kindOf, listOf}
-use Rattle.words.specs.Calls.{numberIn, Reads, Writes}
+use Rattle.words.specs.Calls.{numberIn, wordTests, readTests, Reads, Writes}
 use Rattle.words.specs.Tidied.{wordAt, bitsIn}
 use Rattle.words.specs.Ranges.{FirstOut, Ends, AtEnds, endAt, TimeOfDay}
 pub use Rattle.words.specs.Ranges.{readable, mayFail}
@@ -43,7 +47,7 @@ use Rattle.layout.proofs.Rows.{layout-long}
 use Rattle.words.proofs.Fits.{is-true, sound-at, range-at, layout-laid}
 use Rattle.words.proofs.Trip.{kind-values-long}
 use Rattle.records.proofs.RecordLists.{list-long}
-use Rattle.words.proofs.RoundTrips.{read-numbers, write-numbers}
+use Rattle.words.proofs.RoundTrips.{write-numbers}
 
 -- ---- "RANGE names the first word that fails, from the highest bit number down, by that word's top bit number"
 first-out : (w : Word) (ws : List Word) (z : ℤ) (zs : List ℤ) (b : Bool) → inRange w z ≡ b → ((firstBad ws zs ≡ 0 → ⊥) → FirstOut ws zs (firstBad ws zs))
@@ -325,20 +329,25 @@ module _ (s : List ℕ) (k : Kind) (p : ℕ) (a : Reads s k (Refused (Range p)))
   abbrev bad : ℕ
   bad = firstBad (layout k) (valuesOf left (layout k))
 
+  abbrev after : List Test
+  after = wordTests left k
+
+  -- RANGE is none of the check's numbers
+  not-there : T (allOf (λ j. not (eqb j 10)) (soundTests (numberOf s)))
+  unfolding soundTests
+  not-there = tt
+
   read-told : (p ≡ bad) × (eqb bad 0 ≡ false)
   unfolding Reads
   read-told =
-      let f = read-numbers s k (Refused (Range p)) a .refused 5 (lit< tt) .0 refl in
-      let c = f .1 in
-      let t = is-true (not (eqb bad 0)) (f .0) in
-      let e : (10 ∷ p ∷ []) ≡ (10 ∷ bad ∷ []) = a .answer ∙ rw (
-        unfit (misshapen s) (c 0 (lit< tt)),
-        unfit (isDamaged (ruling (numberOf s))) (c 1 (lit< tt)),
-        unfit (isIdle left) (c 2 (lit< tt)),
-        unfit (eqb (numberIn left) 0) (c 3 (lit< tt)),
-        unfit (not (ofKind k (numberIn left))) (c 4 (lit< tt)),
-        t,
-      ) in
+      let f : firstOf (readTests s k) ≡ 10 = first-given (readTests s k) (numberIn left ∷ kindNumber k ∷ []) (a .answer) in
+      let shape = past-other 2 10 (misshapen s) (soundTests (numberOf s) ++ after) (λ q. omega arith) f in
+      let sound = sound-else (numberOf s) 10 after not-there (shape .1) in
+      let numbered = past-other 5 10 (eqb (numberIn left) 0) (drop 1 after) (λ q. omega arith) (sound .1) in
+      let place = past-other 11 10 (not (ofKind k (numberIn left))) (drop 2 after) (λ q. omega arith) (numbered .1) in
+      let t = first-fits 10 (not (eqb bad 0)) (drop 3 after) tt tt (place .1) in
+      let passed = sound-then (numberOf s) (sound .0) after in
+      let e : (10 ∷ p ∷ []) ≡ (10 ∷ bad ∷ []) = a .answer ∙ rw (shape .0, passed .0, passed .1, numbered .0, place .0, t) in
       (ap (λ (l : List ℕ). getD l 1 0) e, not-true _ t)
 
   -- by the reader, of the string as the check leaves it

@@ -3,9 +3,8 @@
 use mathlib.Core.Path.{_≡_, refl, sym, ap, ap₂, subst, _∙_}
 use mathlib.Core.Bool.{Bool, true, false}
 use mathlib.Core.List.{List, [], _∷_, _++_}
-use Prim.Native.Nat.{ℕ, zero, suc, _<_}
+use Prim.Native.Nat.{ℕ, zero, suc}
 use native.Mathlib.Omega.{arith}
-use lib.Dec.{lit<}
 use lib.ListN.{length}
 use borrow.Author.Tests.{ne-eqb}
 use Rattle.strings.specs.declared.Refusal.{Refusal}
@@ -13,13 +12,13 @@ use Rattle.strings.specs.declared.Verdict.{Verdict}
 use Rattle.strings.specs.declared.Checked.{Checked}
 use Rattle.strings.specs.declared.Checked.the-variants.{Taken, Refused as NotTaken}
 use Rattle.strings.specs.Pick.{pick}
-use Rattle.strings.specs.Number.{numberOf, misshapen}
-use Rattle.strings.specs.Hamming.{ruling, isDamaged, mended}
+use Rattle.strings.specs.Number.{numberOf}
+use Rattle.strings.specs.Hamming.{ruling, mended}
 use Rattle.strings.specs.Numbers.{refusalPaper, verdictPaper, Test, firstOf, placeOf, saidBy, answerOf}
-use Rattle.strings.specs.Calls.{Checks, checkedPaper, verdictTold, stringTests, isIdle}
+use Rattle.strings.specs.Calls.{Checks, checkedPaper, verdictTold, soundTests, stringTests}
 use Rattle.strings.proofs.Answer.{not-taken, taken-made}
-use Rattle.strings.proofs.CheckRule.{check-numbers}
-use Rattle.strings.proofs.Below.{unfit}
+use Rattle.strings.proofs.CheckRule.{check-took}
+use Rattle.strings.proofs.SoundTests.{IsSound, sound-then}
 use Rattle.strings.proofs.Judge.{mended-lt}
 use Rattle.strings.proofs.Shape.{shaped, has-room}
 use Rattle.strings.proofs.Value.{Bytes, number-lt, string-number}
@@ -46,6 +45,10 @@ module _ {n : ℕ} {k : Kind} where
   pub reads-on : (j : ℕ) {p : List ℕ} {b : Bool} {ts : List Test} {r : Reading} → b ≡ false → ReadsBy ts n k r
       → ReadsBy (record { number = j; place = p; fits = b } ∷ ts) n k r
   reads-on j e a = record { answer = rw e (a .answer); words = rw e (a .words) }
+
+  -- those of every string do not fit: the answer is that of the others
+  pub reads-past : (x : ℕ) → IsSound x → (ts : List Test) {r : Reading} → ReadsBy ts n k r → ReadsBy (soundTests x ++ ts) n k r
+  reads-past x i ts a = let p = sound-then x i ts in record { answer = rw (p .0, p .1) (a .answer); words = rw (p .0) (a .words) }
 
   -- none fits: m and the record of the values
   pub reads-yes : (m : ℕ) (r : Record) → m ≡ numberIn n → r ≡ recordOf k (valuesOf n (layout k)) → ReadsBy [] n k (Read m r)
@@ -85,8 +88,6 @@ module _ (s out out′ : List ℕ) (k : Kind) (c : Checked) (room : length out �
   taken-read v r e b w =
       let n = numberOf s in
       let a′ = subst (λ (x : Checked). Checks s out x out′) e a in
-      let clear = check-numbers s out (Taken v) out′ a′ .taken .0 refl in
-      let sh = unfit (misshapen s) (clear 1 (lit< tt)) in
-      let f = ap numberOf (taken-made (verdictPaper v) a′) ∙ string-number (mended n) (mended-lt n (number-lt s b (shaped s sh .0))) in
-      reads-on 2 sh (reads-on 3 (unfit (isDamaged (ruling n)) (clear 2 (lit< tt))) (reads-on 4 (unfit (isIdle (mended n)) (clear 3 (lit< tt)))
-      (subst (λ (m : ℕ). ReadsBy (wordTests m k) m k r) f w)))
+      let c = check-took s out v out′ a′ in
+      let f = ap numberOf (taken-made (verdictPaper v) a′) ∙ string-number (mended n) (mended-lt n (number-lt s b (shaped s (c .0) .0))) in
+      reads-on 2 (c .0) (reads-past n (c .1) (wordTests (mended n) k) (subst (λ (m : ℕ). ReadsBy (wordTests m k) m k r) f w))

@@ -5,7 +5,7 @@
 -- Assumes nothing.
 use mathlib.Core.Path.{_≡_, refl, sym, ap, ap₂, _∙_, subst}
 use mathlib.Core.Bool.{Bool, true, false, not, _&&_, _||_, true≢false}
-use mathlib.Core.List.{List, [], _∷_}
+use mathlib.Core.List.{List, [], _∷_, _++_}
 use mathlib.Core.Logic.{⊎-elim}
 use Prim.Native.Nat.{ℕ, suc, _+_, _-_, _*_, _/_, _%_, _^_, _≤_, _<_, suc-le-suc}
 use native.Mathlib.Nat.{mod-lt, zero-lt-suc}
@@ -13,7 +13,7 @@ use native.Mathlib.Omega.{arith}
 use borrow.Author.Tests.{eq-eqb, ne-eqb, eqb-true, leb-true, not-false}
 use lib.Dec.{T, eqb, leb, lit<, lit≤}
 use lib.IntN.{ℤ, pos}
-use lib.ListN.{length, getD}
+use lib.ListN.{length, getD, drop}
 use lib.Pow.{shr-shr}
 use Rattle.strings.specs.declared.Refusal.{Refusal}
 use Rattle.strings.specs.declared.Verdict.the-variants.{Clean, Repaired}
@@ -23,15 +23,17 @@ use Rattle.strings.specs.declared.Written.{Written}
 use Rattle.strings.specs.declared.Written.the-variants.{Done, Refused as NotWritten}
 use Rattle.strings.specs.Pick.{pick}
 use Rattle.strings.specs.Number.{Bytes, numberOf, misshapen, bitOf, wordOf, flip, stringBytes}
-use Rattle.strings.specs.Hamming.{ruling, isDamaged, mended, Encoded, Whole, encode}
-use Rattle.strings.specs.Numbers.{firstOf, placeOf, saidBy, Exactly}
-use Rattle.strings.specs.Calls.{writtenPaper, noRoom, isIdle, Checks}
+use Rattle.strings.specs.Hamming.{isDamaged, mended, Encoded, Whole, encode}
+use Rattle.strings.specs.Numbers.{Test, firstOf, placeOf, saidBy, Exactly}
+use Rattle.strings.specs.Calls.{writtenPaper, noRoom, Checks, soundTests}
 use Rattle.strings.proofs.Digits.{flip-lt, flip-undo, bits-same, three}
 use Rattle.strings.proofs.WordOf.{bit-in-word, word-split}
 use Rattle.strings.proofs.Value.{string-number, string-bytes}
 use Rattle.strings.proofs.Shape.{string-shaped, has-room, shaped}
 use Rattle.strings.proofs.Below.{unfit, both}
-use Rattle.strings.proofs.Answer.{goes-on, takes, same-answer, refusal-same, written-same, exactly, taken-made, refused-left}
+use Rattle.strings.proofs.Answer.{goes-on, takes, same-answer, refusal-same, written-same, exactly, first-given, taken-made, refused-left}
+use Rattle.strings.proofs.Tests.{past-first}
+use Rattle.strings.proofs.SoundTests.{sound-first, sound-then, sound-same}
 use Rattle.strings.proofs.Encode.{encode-encoded, encode-stays, encode-lt, encoded-once}
 use Rattle.strings.proofs.CheckRule.{encoded-clean}
 use Rattle.strings.proofs.Flips.{encoded-ruling, one-flip-ruling}
@@ -47,7 +49,7 @@ use Rattle.layout.specs.Layout.{layout, none, kindNumber, ofKind}
 use Rattle.layout.specs.Reserved.{inWords}
 use Rattle.words.specs.Values.{codeAs, codeIn, valuesOf, firstBad, dataOf}
 use Rattle.records.specs.Records.{kindOf, listOf, recordOf}
-use Rattle.words.specs.Calls.{numberIn, readTests, readingPaper, readingWords, Reads, writeTests, stringOf, Writes}
+use Rattle.words.specs.Calls.{numberIn, wordTests, readTests, readingPaper, readingWords, Reads, writeTests, stringOf, Writes}
 use Rattle.words.specs.Taken.{IsRead, IsWritten}
 use Rattle.words.specs.Tidied.{wordAt, bitsIn, tidyWords, tidied, Tidy, NoStray}
 use Rattle.records.proofs.RecordLists.{list-long, record-list}
@@ -76,7 +78,7 @@ module _ (s : List ℕ) (k : Kind) where
   read-once q p a b = reading-same q p (a .answer ∙ sym (b .answer)) (a .words ∙ sym (b .words))
 
   pub read-numbers : (q : Reading) → Reads s k q → Exactly (readTests s k) (readingPaper q)
-  unfolding Reads
+  unfolding Reads soundTests
   read-numbers q a = exactly {made = []} {out = []} tt (record { answer = a .answer; output = refl })
 
 -- the encoder
@@ -96,17 +98,20 @@ module _ (m : ℕ) (r : Record) (out : List ℕ) where
 
 -- ---- what it takes to be read
 module _ (s : List ℕ) (k : Kind) (m : ℕ) (r : Record) where
-  none-fits : misshapen s ≡ false → isDamaged (ruling (numberOf s)) ≡ false → isIdle (mended (numberOf s)) ≡ false
-      → eqb (numberIn (mended (numberOf s))) 0 ≡ false → ofKind k (numberIn (mended (numberOf s))) ≡ true
-      → eqb (firstBad (layout k) (valuesOf (mended (numberOf s)) (layout k))) 0 ≡ true → firstOf (readTests s k) ≡ 0
-  none-fits a b c d e f = rw (a, b, c, d, e, f)
+  abbrev after : List Test
+  after = wordTests (mended (numberOf s)) k
+
+  none-fits : IsRead s k m r → firstOf (readTests s k) ≡ 0
+  none-fits i =
+      let p = sound-then (numberOf s) (record { sound = i .sound; idle = i .idle }) after in
+      rw (i .shape, p .0, i .numbered, i .place, eq-eqb _ 0 (i .range))
 
   pub reads : IsRead s k m r → Reads s k (Read m r)
   unfolding Reads readingWords
   reads i =
       let n = mended (numberOf s) in
       let ts = readTests s k in
-      let z = none-fits (i .shape) (i .sound) (i .idle) (i .numbered) (i .place) (eq-eqb _ 0 (i .range)) in
+      let z = none-fits i in
       record {
         answer = ap₂ (λ (a b : ℕ). 0 ∷ a ∷ b ∷ []) (i .number) (ap kindNumber (i .kind)) ∙ sym (ap (λ (x : ℕ). saidBy x (placeOf ts) (numberIn n ∷ kindNumber k ∷ [])) z);
         words = i .words ∙ sym (ap (λ (x : ℕ). pick (eqb x 0) (valuesOf n (layout k)) []) z);
@@ -117,22 +122,20 @@ module _ (s : List ℕ) (k : Kind) (m : ℕ) (r : Record) where
   is-read a =
       let n = mended (numberOf s) in
       let ts = readTests s k in
-      let clear = read-numbers s k (Read m r) a .taken .0 refl in
-      let shape = unfit (misshapen s) (clear 0 (lit< tt)) in
-      let sound = unfit (isDamaged (ruling (numberOf s))) (clear 1 (lit< tt)) in
-      let idle = unfit (isIdle n) (clear 2 (lit< tt)) in
-      let numbered = unfit (eqb (numberIn n) 0) (clear 3 (lit< tt)) in
-      let place = not-false (ofKind k (numberIn n)) (unfit (not (ofKind k (numberIn n))) (clear 4 (lit< tt))) in
-      let range = not-false _ (unfit (not (eqb (firstBad (layout k) (valuesOf n (layout k))) 0)) (clear 5 (lit< tt))) in
-      let z = none-fits shape sound idle numbered place range in
+      let z = first-given ts (numberIn n ∷ kindNumber k ∷ []) (a .answer) in
+      let shape = past-first 1 (misshapen s) (soundTests (numberOf s) ++ after) z in
+      let sound = sound-first (numberOf s) after (shape .1) in
+      let numbered = past-first 4 (eqb (numberIn n) 0) (drop 1 after) (sound .1) in
+      let place = past-first 10 (not (ofKind k (numberIn n))) (drop 2 after) (numbered .1) in
+      let range = past-first 9 (not (eqb (firstBad (layout k) (valuesOf n (layout k))) 0)) (drop 3 after) (place .1) in
       let e = a .answer ∙ ap (λ (x : ℕ). saidBy x (placeOf ts) (numberIn n ∷ kindNumber k ∷ [])) z in
       record {
-        shape = shape;
-        sound = sound;
-        idle = idle;
-        numbered = numbered;
-        place = place;
-        range = eqb-true _ 0 range;
+        shape = shape .0;
+        sound = sound .0 .sound;
+        idle = sound .0 .idle;
+        numbered = numbered .0;
+        place = not-false (ofKind k (numberIn n)) (place .0);
+        range = eqb-true _ 0 (not-false _ (range .0));
         number = ap (λ (l : List ℕ). getD l 1 0) e;
         kind = kind-same (kindOf r) k (ap (λ (l : List ℕ). getD l 2 0) e);
         words = a .words ∙ ap (λ (x : ℕ). pick (eqb x 0) (valuesOf n (layout k)) []) z;
@@ -284,8 +287,8 @@ module _ (m : ℕ) (r : Record) (out out′ : List ℕ) (a : Writes m r out Done
         printed = λ i t. let p = reserved-free (kindOf r) i t in gap-written i (p .0 .0) (p .0 .1) (p .1);
       }
 
--- ---- the reader goes by the shape, the ruling and the string as the check leaves it
-reads-by : (s t : List ℕ) (k : Kind) (q : Reading) → misshapen s ≡ misshapen t → isDamaged (ruling (numberOf s)) ≡ isDamaged (ruling (numberOf t))
+-- ---- the reader goes by the shape, the check's tests and the string as the check leaves it
+reads-by : (s t : List ℕ) (k : Kind) (q : Reading) → misshapen s ≡ misshapen t → soundTests (numberOf s) ≡ soundTests (numberOf t)
     → mended (numberOf s) ≡ mended (numberOf t) → Reads s k q → Reads t k q
 unfolding Reads
 reads-by s t k q e f g a = rw (← e, ← f, ← g) a
@@ -299,10 +302,10 @@ flip-reads-alike n i h v l u ne k q p a b =
     let r = one-flip-ruling n i v l u ne in
     let c = encoded-ruling n v in
     let e : mended m ≡ mended n = mended-by m (Repaired i) r ∙ flip-undo 85 n i h l u ∙ sym (mended-by n Clean c) in
-    let d : isDamaged (ruling m) ≡ isDamaged (ruling n) = ap isDamaged r ∙ sym (ap isDamaged c) in
+    let d : soundTests m ≡ soundTests n = sound-same m n (ap isDamaged r) (ap isDamaged c) e in
     read-once (stringBytes n) k q p
     (reads-by (stringBytes m) (stringBytes n) k q (string-shaped m g ∙ sym (string-shaped n h))
-    (ap (λ (x : ℕ). isDamaged (ruling x)) (string-number m g) ∙ d ∙ sym (ap (λ (x : ℕ). isDamaged (ruling x)) (string-number n h)))
+    (ap soundTests (string-number m g) ∙ d ∙ sym (ap soundTests (string-number n h)))
     (ap mended (string-number m g) ∙ e ∙ sym (ap mended (string-number n h))) a) b
 
 -- ---- READ, THEN WRITTEN: the string as the check leaves it, "but that reserved bits and minus zeros become plain zeros and the check bits

@@ -10,6 +10,7 @@ use Rattle.strings.specs.Known.{zeros}
 use Rattle.records.specs.declared.kinds.Kind.{Kind}
 use Rattle.records.specs.declared.kinds.Kind.the-variants.{One, Odd}
 use Rattle.layout.specs.Layout.{layout}
+use Rattle.strings.specs.Calls.{soundTests}
 use Rattle.words.specs.Calls.{readTests}
 use Rattle.words.specs.Values.{valueIn, inRange}
 use Rattle.words.specs.Tidied.{wordAt}
@@ -29,7 +30,7 @@ pub record Known : Type 0 where
   pub H-24 : inRange (wordAt Odd 4) (valueIn (wordAt Odd 4) 24) ≡ false
 
 pub known : Known
-unfolding layout numberOf paddingOf misshapen wordOf position sumC sumAll syndrome sumsSet highest placed judge ruling mended
+unfolding soundTests layout numberOf paddingOf misshapen wordOf position sumC sumAll syndrome sumsSet highest placed judge ruling mended
 known =
     record {
       zeros-number = λ k. refl;

@@ -4,12 +4,14 @@ use Prim.Native.Nat.{ℕ}
 use mathlib.Core.List.{List, [], _∷_}
 use mathlib.Core.Path.{_≡_, refl}
 use Rattle.strings.specs.Numbers.{numbersOf}
+use Rattle.strings.specs.Calls.{soundTests}
 use Rattle.records.specs.declared.kinds.Kind.{Kind}
 use Rattle.records.specs.declared.named.Record.{Record}
 use Rattle.words.specs.Calls.{readTests, writeTests}
 
 -- "Reader (plain form): 2, 3, 4, 5, 11, 10"
 pub read-order : (s : List ℕ) (k : Kind) → numbersOf (readTests s k) ≡ 2 ∷ 3 ∷ 4 ∷ 5 ∷ 11 ∷ 10 ∷ []
+unfolding soundTests
 read-order s k = refl
 
 -- "Encoder (plain form, checked): 12, 11, 10"
