@@ -1,26 +1,18 @@
--- The words of an entry, in the bits of the strings that showed it: a half keeps every word of its string where it stands (half-word), and a signed
--- word is its top bit and the rest (signed-is).
+-- The words of an entry, in the bits of the strings that showed it: a half keeps every word of its string where it stands (half-word).
 -- Assumes nothing.
-use mathlib.Core.Path.{_≡_, refl, sym, ap, _∙_}
-use mathlib.Core.Bool.{Bool, true, false}
-use Prim.Native.Nat.{ℕ, _+_, _-_, _*_, _/_, _%_, _^_, _≤_, _<_}
+use mathlib.Core.Path.{_≡_, sym, ap, _∙_}
+use Prim.Native.Nat.{ℕ, _+_, _-_, _*_, _/_, _%_, _^_, _≤_}
 use native.Mathlib.Omega.{arith}
-use borrow.Author.Tests.{lt-ltb, le-ltb, eq-eqb, ne-eqb, le-leb, lt-leb, eqb-true, eqb-false}
-use lib.Dec.{eqb}
-use lib.IntN.{ℤ, pos, negℤ}
+use borrow.Author.Tests.{le-leb, lt-leb}
+use lib.IntN.{pos}
 use lib.Pow.{shl-shr, shr-shr, field, mod-mod-pow}
-use Rattle.strings.specs.Pick.{pick}
 use Rattle.strings.specs.Number.{wordOf}
 use Rattle.layout.specs.Layout.{layout}
 use Rattle.words.specs.Signed.{signedAt}
 use Rattle.words.specs.Values.{valuesOf, carrierOf}
-use Rattle.words.proofs.WordBits.{word-lt}
-use Rattle.book.specs.declared.Entry.{Entry}
-use Rattle.book.specs.declared.Shown.the-variants.{At}
+use Rattle.words.proofs.Names.{signed-in}
 use Rattle.book.specs.Entry.{Three, meaning, evenWords, oddWords}
-use Rattle.book.specs.Shows.{shownBy}
-use Rattle.book.specs.EntryWords.{signedIn, EvenBits, OddBits, EveryEntrysWords}
-use Rattle.strings.proofs.WordOf.{word-cut}
+use Rattle.book.specs.EntryWords.{EvenBits, OddBits, EveryEntrysWords}
 use Rattle.book.proofs.ShownExactly.{shown-exactly}
 
 -- ---- a word within the bits from 80 down to `last`, read where they stand
@@ -41,41 +33,6 @@ half-word n last top low g h l u =
     ∙ mod-mod-pow (y / 2 ^ j) (80 - top) w
     ∙ ap (λ (z : ℕ). z % 2 ^ w) (shr-shr n k j ∙ ap (λ (i : ℕ). n / 2 ^ i) (sym at))
 
--- ---- sign and magnitude: the weight of the top bit is 2 ^ (top - low)
-module _ (n top low : ℕ) (h : 1 ≤ low) (l : low < top) where
-  abbrev half : ℕ
-  half = 2 ^ (top - low)
-
-  abbrev sign : ℕ
-  sign = wordOf n top top
-
-  abbrev rest : ℕ
-  rest = wordOf n (top - 1) low
-
-  sign-and-rest : wordOf n top low ≡ sign * half + rest
-  sign-and-rest =
-      let e : top - 1 + 1 ≡ top = omega arith in
-      word-cut n top (top - 1) low h (omega arith) (omega arith) ∙ ap (λ (i : ℕ). wordOf n top i * 2 ^ (i - low) + rest) e
-
-  rest-lt : rest < half
-  rest-lt = let e : top - 1 + 1 - low ≡ top - low = omega arith in rw (e) at (word-lt n (top - 1) low)
-
-  sign-lt : sign < 2
-  sign-lt = let e : top + 1 - top ≡ 1 = omega arith in rw (e) at (word-lt n top top)
-
-  signed-is : signedAt half (wordOf n top low) ≡ signedIn n top low
-  signed-is = ap (signedAt half) sign-and-rest ∙ by (eqb sign 1) refl
-    where
-      by : (t : Bool) → eqb sign 1 ≡ t → signedAt half (sign * half + rest) ≡ pick t (negℤ (pos rest)) (pos rest)
-      by true q =
-          let i : sign * half + rest ≡ half + rest = ap (λ (x : ℕ). x * half + rest) (eqb-true sign 1 q) ∙ omega arith in
-          let d : half + rest - half ≡ rest = omega arith in
-          ap (signedAt half) i ∙ rw (le-ltb (half + rest) half (omega arith), d)
-      by false q =
-          let z : sign ≡ 0 = omega (arith, sign-lt, eqb-false sign 1 q) in
-          let i : sign * half + rest ≡ rest = ap (λ (x : ℕ). x * half + rest) z ∙ omega arith in
-          ap (signedAt half) i ∙ rw (lt-ltb rest half rest-lt)
-
 -- ---- the halves of three numbers
 module _ (n : ℕ) (t : Three) where
   module _ (q : t .even ≡ wordOf n 80 9) where
@@ -89,9 +46,9 @@ module _ (n : ℕ) (t : Three) where
           c = ap pos (even-word 80 80 (omega arith) (omega arith) (omega arith));
           ma = ap pos (even-word 79 78 (omega arith) (omega arith) (omega arith));
           na = ap pos (even-word 77 73 (omega arith) (omega arith) (omega arith));
-          taua = ap (signedAt (2 ^ 9)) (even-word 72 63 (omega arith) (omega arith) (omega arith)) ∙ signed-is n 72 63 (omega arith) (omega arith);
-          lambda = ap (signedAt (2 ^ 20)) (even-word 62 42 (omega arith) (omega arith) (omega arith)) ∙ signed-is n 62 42 (omega arith) (omega arith);
-          di = ap (signedAt (2 ^ 17)) (even-word 41 24 (omega arith) (omega arith) (omega arith)) ∙ signed-is n 41 24 (omega arith) (omega arith);
+          taua = ap (signedAt (2 ^ 9)) (even-word 72 63 (omega arith) (omega arith) (omega arith)) ∙ signed-in n 72 63 (omega arith) (omega arith);
+          lambda = ap (signedAt (2 ^ 20)) (even-word 62 42 (omega arith) (omega arith) (omega arith)) ∙ signed-in n 62 42 (omega arith) (omega arith);
+          di = ap (signedAt (2 ^ 17)) (even-word 41 24 (omega arith) (omega arith) (omega arith)) ∙ signed-in n 41 24 (omega arith) (omega arith);
           epsilon = ap pos (even-word 23 9 (omega arith) (omega arith) (omega arith));
         }
 
@@ -109,10 +66,10 @@ module _ (n : ℕ) (t : Three) where
     odd-bits =
         let H = odd-word 14 10 (omega arith) (omega arith) (omega arith) in
         record {
-          omega = ap (signedAt (2 ^ 15)) (odd-word 80 65 (omega arith) (omega arith) (omega arith)) ∙ signed-is n 80 65 (omega arith) (omega arith);
+          omega = ap (signedAt (2 ^ 15)) (odd-word 80 65 (omega arith) (omega arith) (omega arith)) ∙ signed-in n 80 65 (omega arith) (omega arith);
           tlambda = ap pos (odd-word 64 44 (omega arith) (omega arith) (omega arith));
-          dt = ap (signedAt (2 ^ 21)) (odd-word 43 22 (omega arith) (omega arith) (omega arith)) ∙ signed-is n 43 22 (omega arith) (omega arith);
-          dtrate = ap (signedAt (2 ^ 6)) (odd-word 21 15 (omega arith) (omega arith) (omega arith)) ∙ signed-is n 21 15 (omega arith) (omega arith);
+          dt = ap (signedAt (2 ^ 21)) (odd-word 43 22 (omega arith) (omega arith) (omega arith)) ∙ signed-in n 43 22 (omega arith) (omega arith);
+          dtrate = ap (signedAt (2 ^ 6)) (odd-word 21 15 (omega arith) (omega arith) (omega arith)) ∙ signed-in n 21 15 (omega arith) (omega arith);
           h = λ l. ap carrierOf H ∙ rw (lt-leb 25 (wordOf n 14 10) (omega arith));
           h-minus = λ u. ap carrierOf H ∙ rw (le-leb 25 (wordOf n 14 10) u);
           l = ap pos no-l;

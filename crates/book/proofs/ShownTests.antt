@@ -10,6 +10,7 @@ use Rattle.words.specs.Good.{isGood}
 use Rattle.words.proofs.Good.{good-is}
 use Rattle.records.specs.declared.kinds.Kind.the-variants.{Five, Even, Odd}
 use Rattle.book.specs.Shows.{isShown, fourYears, dayInFour, slotIn}
+use Rattle.book.specs.Book.{slots}
 
 -- string 5 is read first, then the halves
 pub shown-is : (five even odd : ℕ) → isShown five even odd ≡ ((isGood Five five && leb 1 (fourYears five)) && (isGood Even even && isGood Odd odd))
@@ -33,7 +34,7 @@ day-read n e =
     record { stated = leb-true 1 (fourYears n) (p .1); least = leb-true 1 (dayInFour n) (q .0); most = leb-true (dayInFour n) 1461 (q .1) }
 
 -- a good even string: "nA 1..24"
-pub slot-read : (n : ℕ) → isGood Even n ≡ true → (1 ≤ slotIn n) × (slotIn n ≤ 24)
+pub slot-read : (n : ℕ) → isGood Even n ≡ true → (1 ≤ slotIn n) × (slotIn n ≤ slots)
 slot-read n e =
-    let q = both (leb 1 (slotIn n)) (leb (slotIn n) 24) (sym (good-is Even n (lit≤ tt)) ∙ e) in
-    (leb-true 1 (slotIn n) (q .0), leb-true (slotIn n) 24 (q .1))
+    let q = both (leb 1 (slotIn n)) (leb (slotIn n) slots) (sym (good-is Even n (lit≤ tt)) ∙ e) in
+    (leb-true 1 (slotIn n) (q .0), leb-true (slotIn n) slots (q .1))

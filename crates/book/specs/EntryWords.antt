@@ -3,20 +3,15 @@
 -- Assumes nothing.
 use Prim.Native.Nat.{ℕ, _-_, _≤_}
 use mathlib.Core.Path.{_≡_}
-use lib.Dec.{eqb}
-use lib.IntN.{ℤ, pos, negℤ}
-use Rattle.strings.specs.Pick.{pick}
+use lib.IntN.{pos, negℤ}
 use Rattle.strings.specs.Number.{wordOf}
+use Rattle.words.specs.Names.{signedIn}
 use Rattle.records.specs.declared.named.EvenString.{EvenString}
 use Rattle.records.specs.declared.named.OddString.{OddString}
 use Rattle.book.specs.declared.Entry.{Entry}
 use Rattle.book.specs.declared.Shown.the-variants.{At}
 use Rattle.book.specs.Entry.{meaning, evenWords, oddWords}
 use Rattle.book.specs.Shows.{shownBy}
-
--- bits top down to low of a string as sign and magnitude: "top bit 1 is minus"
-abbrev pub signedIn : ℕ → ℕ → ℕ → ℤ
-signedIn n top low = pick (eqb (wordOf n top top) 1) (negℤ (pos (wordOf n (top - 1) low))) (pos (wordOf n (top - 1) low))
 
 -- C, MA, nA, tau A, lambda, delta i, epsilon
 pub record EvenBits (n : ℕ) (w : EvenString) : Type 0 where

@@ -6,7 +6,8 @@ use mathlib.Core.Bool.{Bool, true, _&&_, Bool·beq}
 use mathlib.Core.List.{List, [], _∷_}
 use mathlib.Core.Path.{_≡_, refl}
 use lib.Dec.{T}
-use Rattle.strings.specs.Table413.{_to_, has}
+use Rattle.strings.specs.Pick.{isOneOf}
+use Rattle.strings.specs.Table413.{_to_}
 use Rattle.records.specs.declared.kinds.Kind.{Kind}
 use Rattle.records.specs.declared.kinds.Kind.the-variants.{One, Two, Three, Four, Five, Even, Odd, Fourteen}
 use Rattle.layout.specs.Layout.{kindNumber, ofKind}
@@ -24,7 +25,7 @@ numbers Fourteen = 14 ∷ []
 
 abbrev agree : List ℕ → Kind → Bool
 agree [] k = true
-agree (m ∷ ms) k = Bool·beq (ofKind k m) (has (numbers k) m) && agree ms k
+agree (m ∷ ms) k = Bool·beq (ofKind k m) (isOneOf (numbers k) m) && agree ms k
 
 -- m 0..15 is of a kind exactly where the kind's list has it
 pub kind-numbers : (k : Kind) → T (agree (0 to 15) k)

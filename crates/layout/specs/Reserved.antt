@@ -5,7 +5,8 @@ use Prim.Native.Nat.{ℕ}
 use mathlib.Core.Bool.{Bool, true, false, not, _&&_, _||_, Bool·beq}
 use mathlib.Core.List.{List, [], _∷_, _++_}
 use lib.Dec.{T, leb}
-use Rattle.strings.specs.Table413.{_to_, has}
+use Rattle.strings.specs.Pick.{isOneOf}
+use Rattle.strings.specs.Table413.{_to_}
 use Rattle.layout.specs.declared.table.Word.{Word}
 use Rattle.records.specs.declared.kinds.Kind.{Kind}
 use Rattle.records.specs.declared.kinds.Kind.the-variants.{One, Two, Three, Four, Five, Even, Odd, Fourteen}
@@ -29,7 +30,7 @@ inWords (w ∷ ws) i = (leb (w .low) i && leb i (w .top)) || inWords ws i
 
 abbrev agree : List ℕ → Kind → Bool
 agree [] k = true
-agree (i ∷ is) k = Bool·beq (has (reserved k) i) (not (inWords (layout k) i)) && agree is k
+agree (i ∷ is) k = Bool·beq (isOneOf (reserved k) i) (not (inWords (layout k) i)) && agree is k
 
 -- Table 4.12: a bit 9..80 is reserved exactly where it is in no word
 pub table-4-12 : (k : Kind) → T (agree (9 to 80) k)

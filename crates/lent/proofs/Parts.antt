@@ -1,6 +1,7 @@
 -- A station, its book and their parts as machine values: what both walks over a lent station use. Assumes nothing.
 use mathlib.Core.Path.{_≡_, refl}
 use mathlib.Core.List.{List, [], _∷_, map}
+use Prim.Native.Nat.{ℕ, _*_}
 use lib.ListN.{length}
 use mir.Val.{Val, vstruct, vnil, vcons}
 use denote.Laws.{Is}
@@ -8,6 +9,7 @@ use denote.Array.{arrayVal}
 use denote.Struct.Laws as LL
 use Rattle.book.specs.declared.Entry.{Entry}
 use Rattle.book.specs.declared.Book.{Book}
+use Rattle.book.specs.Book.{slots}
 use Rattle.book.proofs.Entry as EN
 use Rattle.book.proofs.Entry.Laws as EN′
 use Rattle.book.proofs.Book as BK
@@ -16,9 +18,20 @@ use Rattle.channel.specs.declared.Row.{Row}
 use Rattle.channel.proofs.Row as RW
 use Rattle.channel.proofs.Row.Laws as RW′
 use Rattle.station.specs.declared.Station.{Station}
+use Rattle.station.specs.Station.{channels}
 use Rattle.station.proofs.Station as ST
 use Rattle.station.proofs.Station.Laws as ST′
 use Rattle.lent.proofs.Item.{lowly, Lows, in-field, out-field}
+
+-- ---- how many bytes a row and an entry have, and where in a station its book begins
+abbrev pub rowBytes : ℕ
+rowBytes = 228
+
+abbrev pub entryBytes : ℕ
+entryBytes = 24
+
+abbrev pub bookAt : ℕ
+bookAt = channels * rowBytes
 
 -- ---- machine values
 abbrev pub rowsVal : List Row → Val
@@ -31,19 +44,19 @@ abbrev pub stationVal : Val → Val → Val
 stationVal r b = vstruct (vcons r (vcons b vnil))
 
 -- ---- the parts of a station
-pub rows-of : (st : Station) (vs : List Val) → Is ST.the-row st vs → (length (st .rows) ≡ 24) × Lows RW.the-type RW′.lowers (st .rows)
-rows-of st vs p = out-field RW.the-type RW′.lowers 24 (st .rows) _ (LL.owed ST.the-type ST′.the-laws st vs p .0)
+pub rows-of : (st : Station) (vs : List Val) → Is ST.the-row st vs → (length (st .rows) ≡ channels) × Lows RW.the-type RW′.lowers (st .rows)
+rows-of st vs p = out-field RW.the-type RW′.lowers channels (st .rows) _ (LL.owed ST.the-type ST′.the-laws st vs p .0)
 
 pub book-of : (st : Station) (vs : List Val) → Is ST.the-row st vs → Is BK.the-row (st .book) (BK′.lowered (st .book) ∷ [])
 book-of st vs p = lowly BK.the-type BK′.lowers (st .book) _ (LL.owed ST.the-type ST′.the-laws st vs p .1 .0)
 
-pub entries-of : (st : Station) (vs : List Val) → Is ST.the-row st vs → (length (st .book .entries) ≡ 24) × Lows EN.the-type EN′.lowers (st .book .entries)
-entries-of st vs p = out-field EN.the-type EN′.lowers 24 (st .book .entries) _ (LL.owed BK.the-type BK′.the-laws (st .book) _ (book-of st vs p) .0)
+pub entries-of : (st : Station) (vs : List Val) → Is ST.the-row st vs → (length (st .book .entries) ≡ slots) × Lows EN.the-type EN′.lowers (st .book .entries)
+entries-of st vs p = out-field EN.the-type EN′.lowers slots (st .book .entries) _ (LL.owed BK.the-type BK′.the-laws (st .book) _ (book-of st vs p) .0)
 
 -- ---- a book of its entries, a station of its parts
-pub book-made : (es : List Entry) → (length es ≡ 24) × Lows EN.the-type EN′.lowers es → Is BK.the-row (record { entries = es }) (bookVal (arrayVal (map EN′.lowered es)) ∷ [])
-book-made es p = ((arrayVal (map EN′.lowered es) ∷ [], tt), (refl, (in-field EN.the-type EN′.lowers 24 es (p .0) (p .1), tt)))
+pub book-made : (es : List Entry) → (length es ≡ slots) × Lows EN.the-type EN′.lowers es → Is BK.the-row (record { entries = es }) (bookVal (arrayVal (map EN′.lowered es)) ∷ [])
+book-made es p = ((arrayVal (map EN′.lowered es) ∷ [], tt), (refl, (in-field EN.the-type EN′.lowers slots es (p .0) (p .1), tt)))
 
-pub made-of : (rs : List Row) (b : Book) → (length rs ≡ 24) × Lows RW.the-type RW′.lowers rs → Is BK.the-row b (BK′.lowered b ∷ [])
+pub made-of : (rs : List Row) (b : Book) → (length rs ≡ channels) × Lows RW.the-type RW′.lowers rs → Is BK.the-row b (BK′.lowered b ∷ [])
     → Is ST.the-row (record { rows = rs; book = b }) (stationVal (rowsVal rs) (BK′.lowered b) ∷ [])
-made-of rs b p r = ((rowsVal rs ∷ [], (BK′.lowered b ∷ [], tt)), (refl, (in-field RW.the-type RW′.lowers 24 rs (p .0) (p .1), (r, tt))))
+made-of rs b p r = ((rowsVal rs ∷ [], (BK′.lowered b ∷ [], tt)), (refl, (in-field RW.the-type RW′.lowers channels rs (p .0) (p .1), (r, tt))))

@@ -6,6 +6,7 @@ use book::join;
 use book::place_of;
 use book::rises;
 use shows::newly_shown;
+use station::LAST_CHANNEL;
 use station::Station;
 ghost use Rattle.book.specs.Book.{InBook};
 ghost use Rattle.lent.specs.Lent.{OffersLent, BringsOne};
@@ -16,7 +17,7 @@ ghost use Rattle.lent.specs.Lent.{OffersLent, BringsOne};
 pub extern "C" fn spineyarrow_offer(st: &mut Station, channel: u8, epoch: u32, s: &[u8]) -> u64
     ensures { λ r. ⌜ OffersLent (now (st .entry)) channel epoch (now (s .entry)) (now (st .exit)) r ⌝ }
 {
-    if 23 < channel {
+    if LAST_CHANNEL < channel {
         return 1;
     }
     let i = channel as usize;

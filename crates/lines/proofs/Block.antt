@@ -12,7 +12,7 @@ use Rattle.station.specs.declared.Station.{Station}
 use Rattle.lines.specs.declared.Listed.{Listed}
 use Rattle.lines.specs.declared.Printed.{Printed}
 use Rattle.lines.specs.Line.{Lists}
-use Rattle.lines.specs.Text.{lineText, leftOver, recordAt, stationAt, linesAt, listing, Puts, Prints}
+use Rattle.lines.specs.Text.{lineBytes, lineText, leftOver, recordAt, stationAt, linesAt, listing, Puts, Prints}
 use Rattle.lines.proofs.Tells.{line-is}
 use Rattle.lines.proofs.Pieces.{puts-as, puts-more, puts-none}
 
@@ -24,7 +24,7 @@ sixteen input i = take (i * 16 + 16 - i * 16) (drop (i * 16) input)
 pub record SoFar (st : Station) (input text₀ text : List ℕ) (after : Station) (end i : ℕ) : Type 0 where
   pub station : after ≡ stationAt st input i
   pub lines : Puts text₀ 0 (linesAt st input i) text end
-  pub bound : end ≤ i * 27
+  pub bound : end ≤ i * lineBytes
 
 module _ {st : Station} {input text₀ : List ℕ} where
   pub none-yet : SoFar st input text₀ text₀ st 0 0
@@ -33,7 +33,7 @@ module _ {st : Station} {input text₀ : List ℕ} where
 
   -- one record more
   pub one-more : {text text′ : List ℕ} {after : Station} {end end′ i : ℕ} (r : Listed) → SoFar st input text₀ text after end i
-      → Lists after (sixteen input i) r → Puts text end (lineText (r .line)) text′ end′ → end′ ≤ end + 27
+      → Lists after (sixteen input i) r → Puts text end (lineText (r .line)) text′ end′ → end′ ≤ end + lineBytes
       → SoFar st input text₀ text′ (r .station) end′ (i + 1)
   unfolding stationAt linesAt
   one-more {after = after} {i = i} r s l p b =

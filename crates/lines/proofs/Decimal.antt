@@ -1,4 +1,4 @@
--- Decimal digits: what `io::decimal` spells is the definition's (spelled), and how many there are (decimal-length).
+-- Decimal digits: what `io::decimal` spells is the definition's (spelled), and how many there are (cell-length).
 -- Assumes nothing.
 use mathlib.Core.Path.{_≡_, sym, ap, subst, _∙_}
 use mathlib.Core.Bool.{Bool, true, false}
@@ -71,12 +71,5 @@ decimal-length : (k n : ℕ) → 1 ≤ k → n < 10 ^ k → length (decimal n) �
 unfolding decimal
 decimal-length k n = digits-length k n 20
 
-cell-length : (k n after : ℕ) → 1 ≤ k → n < 10 ^ k → length (cell n after) ≤ k + 1
+pub cell-length : (k n after : ℕ) → 1 ≤ k → n < 10 ^ k → length (cell n after) ≤ k + 1
 cell-length k n after l h = simp length-append (omega (arith, decimal-length k n l h))
-
--- a byte takes three digits, and an epoch ten
-pub byte-cell : (n after : ℕ) → n < 256 → length (cell n after) ≤ 4
-byte-cell n after h = cell-length 3 n after (omega arith) (omega arith)
-
-pub epoch-cell : (n after : ℕ) → n < 2 ^ 32 → length (cell n after) ≤ 11
-epoch-cell n after h = cell-length 10 n after (omega arith) (omega arith)

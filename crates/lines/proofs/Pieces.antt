@@ -19,10 +19,6 @@ sets-append l i (a ∷ p) q =
 pub puts-room : {t t′ p : List ℕ} {at e : ℕ} → Puts t at p t′ e → length t′ ≡ length t
 puts-room {t} {t′} {p} {at} a = ap length (a .written) ∙ length-sets t at p
 
--- what room a piece of at most k bytes leaves
-pub room-left : {t t′ p : List ℕ} {at e : ℕ} (k j : ℕ) → Puts t at p t′ e → length p ≤ k → at + (k + j) ≤ length t → e + j ≤ length t′
-room-left k j a h r = omega (arith, a .past, puts-room a)
-
 -- the same piece
 pub puts-as : {t t′ p q : List ℕ} {at e : ℕ} → p ≡ q → Puts t at p t′ e → Puts t at q t′ e
 puts-as {t} {t′} {p} {q} {at} {e} h a = subst (λ (l : List ℕ). Puts t at l t′ e) h a

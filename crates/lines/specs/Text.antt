@@ -1,6 +1,6 @@
 -- What is printed of an input (the paper, the end of "Known strings and edges"): the bytes of the lines, in ASCII.
 -- Assumes nothing.
-use Prim.Native.Nat.{ℕ, zero, suc, _+_, _*_, _/_, _%_, _≤_}
+use Prim.Native.Nat.{ℕ, zero, suc, _+_, _*_, _/_, _%_, _^_, _≤_, _<_}
 use mathlib.Core.List.{List, [], _∷_, _++_}
 use mathlib.Core.Path.{_≡_}
 use lib.Dec.{eqb, ltb}
@@ -34,9 +34,36 @@ lineFeed = 10
 abbrev pub cell : ℕ → ℕ → List ℕ
 cell n after = decimal n ++ (after ∷ [])
 
+-- numbers in a row: a space after each, a line feed after the last
+abbrev pub row : List ℕ → List ℕ
+row [] = []
+row (n ∷ []) = cell n lineFeed
+row (n ∷ k ∷ ns) = cell n space ++ row (k ∷ ns)
+
 -- "prints per record: channel, epoch, number .., repaired bit .., m"
+abbrev pub numbersOf : Line → List ℕ
+numbersOf l = l .channel ∷ l .epoch ∷ l .number ∷ l .repaired ∷ l .m ∷ []
+
 unfoldable pub lineText : Line → List ℕ
-lineText l = cell (l .channel) space ++ (cell (l .epoch) space ++ (cell (l .number) space ++ (cell (l .repaired) space ++ cell (l .m) lineFeed)))
+lineText l = row (numbersOf l)
+
+-- how many digits each of them has at most: a byte three, and an epoch ten
+abbrev pub lineDigits : List ℕ
+lineDigits = 3 ∷ 10 ∷ 3 ∷ 3 ∷ 3 ∷ []
+
+abbrev pub Within : List ℕ → List ℕ → Type 0
+Within [] [] = Unit
+Within [] (n ∷ ns) = ⊥
+Within (k ∷ ks) [] = ⊥
+Within (k ∷ ks) (n ∷ ns) = (1 ≤ k) × (n < 10 ^ k) × Within ks ns
+
+-- and how many bytes a line has at most: one after each number
+abbrev pub rowBytes : List ℕ → ℕ
+rowBytes [] = 0
+rowBytes (k ∷ ks) = k + 1 + rowBytes ks
+
+abbrev pub lineBytes : ℕ
+lineBytes = rowBytes lineDigits
 
 -- "Bytes left over print `short` and their count"
 abbrev pub short : List ℕ

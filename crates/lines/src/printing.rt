@@ -4,9 +4,10 @@ use crate::Line;
 use crate::Printed;
 use crate::records::list_record;
 use station::Station;
+ghost use mathlib.Core.Path.{_≡_};
 ghost use Prim.Native.Nat.{_+_, _*_, _/_, _≤_, _<_};
 ghost use lib.ListN.{length};
-ghost use Rattle.lines.specs.Text.{cell, lineText, leftOver, Puts, Prints};
+ghost use Rattle.lines.specs.Text.{cell, row, numbersOf, lineDigits, Within, lineBytes, lineText, leftOver, Puts, Prints};
 
 // A piece as it is.
 fn put(text: &mut [u8], at: usize, s: &[u8]) -> usize
@@ -28,22 +29,44 @@ fn put_number(text: &mut [u8], at: usize, n: u64, after: u8) -> usize
     put(text, end, &[after])
 }
 
-// A line has at most 27 bytes: 3, 10, 3, 3 and 3 digits, and a byte after each number.
-fn put_line(text: &mut [u8], at: usize, line: Line) -> usize
-    requires { ⌜ at + 27 ≤ length (now text) ⌝ }
-    ensures { λ r. ⌜ Puts (now (text .entry)) at (lineText line) (now (text .exit)) r × (r ≤ at + 27) ⌝ }
+// Numbers in decimal: a space after each, a line feed after the last.
+fn put_numbers(text: &mut [u8], at: usize, numbers: &[u64]) -> usize
+    requires { ⌜ (at + length (row (now numbers)) ≤ length (now text)) × (0 < length (now numbers)) ⌝ }
+    ensures { λ r. ⌜ Puts (now (text .entry)) at (row (now (numbers .entry))) (now (text .exit)) r ⌝ }
 {
-    let epoch = put_number(text, at, line.channel as u64, b' ');
-    let number = put_number(text, epoch, line.epoch as u64, b' ');
-    let repaired = put_number(text, number, line.number as u64, b' ');
-    let m = put_number(text, repaired, line.repaired as u64, b' ');
-    put_number(text, m, line.m as u64, b'\n')
+    let last = numbers.len() - 1;
+    let mut end = at;
+    for i in 0..last {
+        end = put_number(text, end, numbers[i], b' ');
+    }
+    put_number(text, end, numbers[last], b'\n')
+}
+
+// The numbers of a line, none with more digits than its type has.
+fn numbers_of(line: Line) -> [u64; 5]
+    ensures { λ r. ⌜ (r ≡ numbersOf line) × Within lineDigits r ⌝ }
+{
+    [
+        line.channel as u64,
+        line.epoch as u64,
+        line.number as u64,
+        line.repaired as u64,
+        line.m as u64,
+    ]
+}
+
+fn put_line(text: &mut [u8], at: usize, line: Line) -> usize
+    requires { ⌜ at + lineBytes ≤ length (now text) ⌝ }
+    ensures { λ r. ⌜ Puts (now (text .entry)) at (lineText line) (now (text .exit)) r × (r ≤ at + lineBytes) ⌝ }
+{
+    let numbers = numbers_of(line);
+    put_numbers(text, at, &numbers)
 }
 
 // Bytes left over, fewer than a record has.
 fn put_left_over(text: &mut [u8], at: usize, count: usize) -> usize
-    requires { ⌜ (at + 27 ≤ length (now text)) × (count < 16) ⌝ }
-    ensures { λ r. ⌜ Puts (now (text .entry)) at (leftOver count) (now (text .exit)) r × (r ≤ at + 27) ⌝ }
+    requires { ⌜ (at + lineBytes ≤ length (now text)) × (count < 16) ⌝ }
+    ensures { λ r. ⌜ Puts (now (text .entry)) at (leftOver count) (now (text .exit)) r × (r ≤ at + lineBytes) ⌝ }
 {
     if count == 0 {
         return at;
@@ -54,7 +77,7 @@ fn put_left_over(text: &mut [u8], at: usize, count: usize) -> usize
 
 // Offers the records that stand in the input one after the other, and writes their lines.
 pub fn print_records(st: Station, input: &[u8], text: &mut [u8]) -> Printed
-    requires { ⌜ length (now input) / 16 * 27 + 27 ≤ length (now text) ⌝ }
+    requires { ⌜ length (now input) / 16 * lineBytes + lineBytes ≤ length (now text) ⌝ }
     ensures { λ r. ⌜ Prints st (now (input .entry)) (now (text .entry)) r (now (text .exit)) ⌝ }
 {
     let count = input.len() / 16;

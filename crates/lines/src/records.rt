@@ -4,9 +4,9 @@ use crate::Listed;
 use seen::number_told;
 use seen::seen_by;
 use station::Station;
+use strings::wide;
 ghost use mathlib.Core.Path.{_≡_};
 ghost use mathlib.Core.List.{[], _∷_};
-ghost use Prim.Native.Nat.{_<_};
 ghost use lib.ListN.{length};
 ghost use Rattle.strings.specs.Number.{valueOf};
 ghost use Rattle.lines.specs.Line.{Lists};
@@ -33,12 +33,6 @@ pub fn list_record(st: Station, rec: &[u8]) -> Listed
             m: seen.m,
         },
     }
-}
-
-fn wide(x: u8) -> u32
-    ensures { λ r. ⌜ (r ≡ x) × (r < 256) ⌝ }
-{
-    x as u32
 }
 
 // Four bytes as one number, the first highest.

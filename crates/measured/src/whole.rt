@@ -2,9 +2,9 @@
 use channel::Answer;
 use station::Station;
 use station::Stepped;
+use strings::wide;
 ghost use mathlib.Core.Path.{_≡_};
 ghost use mathlib.Core.List.{[], _∷_};
-ghost use Prim.Native.Nat.{_<_};
 ghost use lib.ListN.{length};
 ghost use Rattle.strings.specs.Number.{valueOf};
 ghost use Rattle.book.specs.Book.{inSlot};
@@ -43,12 +43,6 @@ fn four(a: u8, b: u8, c: u8, d: u8) -> u32
     ensures { λ r. ⌜ r ≡ valueOf (a ∷ b ∷ c ∷ d ∷ []) ⌝ }
 {
     wide(a) * 16777216 + wide(b) * 65536 + wide(c) * 256 + wide(d)
-}
-
-fn wide(x: u8) -> u32
-    ensures { λ r. ⌜ (r ≡ x) × (r < 256) ⌝ }
-{
-    x as u32
 }
 
 fn byte_told(a: Answer) -> u8

@@ -4,6 +4,7 @@ use strings::Written;
 use strings::bit;
 use strings::flip_bit;
 use strings::well_shaped;
+use strings::wide;
 ghost use mathlib.Core.Path.{_≡_};
 ghost use mathlib.Core.Bool.{false};
 ghost use lib.ListN.{length};
@@ -41,12 +42,6 @@ pub fn to_relative(s: &[u8], out: &mut [u8]) -> Written
     bytes::copy(s, out);
     send_symbols(out);
     Written::Done
-}
-
-fn wide(x: u8) -> u16
-    ensures { λ r. ⌜ r ≡ x ⌝ }
-{
-    x as u16
 }
 
 // Each bit is its symbol added to the symbol before, eight at a time: `before` is the byte sent

@@ -1,17 +1,11 @@
 // Numbers in the bytes of a request, the highest byte first.
+use strings::wide;
 ghost use Prim.Native.Nat.{_<_};
-
-// The bound is what keeps a length that the input names within its buffer.
-pub(crate) fn wide(b: u8) -> usize
-    ensures { λ r. ⌜ r < 256 ⌝ }
-{
-    b as usize
-}
 
 pub(crate) fn pair(high: u8, low: u8) -> usize
     ensures { λ r. ⌜ r < 65536 ⌝ }
 {
-    wide(high) * 256 + wide(low)
+    (wide(high) * 256 + wide(low)) as usize
 }
 
 // The number in four bytes from a place on, 0 where the bytes end before it does.

@@ -3,7 +3,7 @@ use crate::answers::say_bad;
 use crate::answers::say_checked;
 use crate::answers::say_written;
 use crate::line::Text;
-use crate::numbers::wide;
+use strings::wide;
 ghost use Prim.Native.Nat.{_≤_};
 
 // The output's length in bytes, then the string.
@@ -14,7 +14,7 @@ pub(crate) fn string_call(op: u8, payload: &[u8], text: &mut Text) -> usize
         return say_bad(text, op);
     }
     let mut space = [0u8; 255];
-    let room = wide(payload[0]);
+    let room = wide(payload[0]) as usize;
     string_into(op, &payload[1..], &mut space[0..room], text)
 }
 

@@ -5,7 +5,6 @@ use crate::answers::say_bad;
 use crate::answers::say_written;
 use crate::line::Text;
 use crate::numbers::four;
-use crate::numbers::wide;
 use crate::words_told::count_of;
 use records::EvenString;
 use records::Kind;
@@ -17,6 +16,7 @@ use records::String3;
 use records::String4;
 use records::String5;
 use records::String14;
+use strings::wide;
 ghost use Prim.Native.Nat.{_≤_};
 ghost use lib.ListN.{length};
 
@@ -42,7 +42,7 @@ pub(crate) fn write_kind(k: Kind, payload: &[u8], text: &mut Text) -> usize
     }
     let record = record_from(k, words_in(&payload[3..]));
     let mut space = [0u8; 255];
-    let room = wide(payload[0]);
+    let room = wide(payload[0]) as usize;
     write_into(payload[2], record, &mut space[0..room], text)
 }
 
@@ -172,7 +172,7 @@ fn words_in(s: &[u8]) -> Words {
 // The word at a place, among words of four bytes each. Two's complement: from 2^31 on, the complement
 // of what the number falls short of all ones by.
 fn word(s: &[u8], place: u8) -> i32 {
-    let n = four(s, wide(place) * 4);
+    let n = four(s, wide(place) as usize * 4);
     if n < 2147483648 {
         n as i32
     } else {

@@ -19,20 +19,20 @@ use Rattle.shows.specs.Shows.{showsOf, brought}
 use Rattle.channel.proofs.HeldFrame.{offered-is, said-by}
 use Rattle.channel.proofs.OnceOnly.{stored-said}
 use Rattle.station.specs.declared.Station.{Station}
-use Rattle.station.specs.Station.{rowAt, stationAfter, OffersTo}
+use Rattle.station.specs.Station.{lastChannel, rowAt, stationAfter, OffersTo}
 
 -- CHANNEL
-pub no-channel : (st : Station) (c epoch : ℕ) (s : List ℕ) → 23 < c → OffersTo st c epoch s (record { station = st; answer = Refused Channel })
+pub no-channel : (st : Station) (c epoch : ℕ) (s : List ℕ) → lastChannel < c → OffersTo st c epoch s (record { station = st; answer = Refused Channel })
 unfolding stationAfter
-no-channel st c epoch s l = let f = lt-ltb 23 c l in record { answer = rw f; station = rw f }
+no-channel st c epoch s l = let f = lt-ltb lastChannel c l in record { answer = rw f; station = rw f }
 
 -- the row offered to and put back, and the book that a newly stored string has brought its entries to
-pub after-offer : (st : Station) (c epoch : ℕ) (s : List ℕ) (o : Offered) (b : Book) → c ≤ 23
+pub after-offer : (st : Station) (c epoch : ℕ) (s : List ℕ) (o : Offered) (b : Book) → c ≤ lastChannel
     → Offers (rowAt st c) epoch s o → b ≡ pick (isStored (o .answer)) (brought (st .book) (showsOf (frameOf (o .row)))) (st .book)
     → OffersTo st c epoch s (record { station = record { rows = set (st .rows) c (o .row); book = b }; answer = o .answer })
 unfolding stationAfter
 after-offer st c epoch s o b l to book =
-    let f = le-ltb 23 c l in
+    let f = le-ltb lastChannel c l in
     let i = offered-is (rowAt st c) epoch s o to in
     record {
       answer = rw f (said-by (rowAt st c) epoch s o to);

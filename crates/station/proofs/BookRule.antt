@@ -17,7 +17,7 @@ use Rattle.book.specs.declared.Shown.{Shown}
 use Rattle.book.specs.declared.Shown.the-variants.{Nothing, At}
 use Rattle.book.specs.Entry.{Three, meaning, entryOf, blank}
 use Rattle.book.specs.Shows.{shownBy}
-use Rattle.book.specs.Book.{inSlot}
+use Rattle.book.specs.Book.{slots, inSlot}
 use Rattle.book.proofs.Order.{meaning-entry, entry-meaning}
 use Rattle.book.proofs.Joins.{Full, empty-full, empty-slot, shown-fits}
 use Rattle.channel.specs.Frame.{Frame, isHere, afterString}
@@ -48,7 +48,7 @@ entryIn (At k e) = e
 -- at a pair: for a slot of the book, with a day, and told by its three numbers
 record Sound (k : ℕ) (e : Entry) : Type 0 where
   least : 1 ≤ k
-  most : k ≤ 24
+  most : k ≤ slots
   day : 1 ≤ e .day
   told : entryOf (meaning e) ≡ e
 
@@ -221,7 +221,7 @@ quiet-offer c epoch s cs k e u n =
     }
 
 -- all that a frame shows is brought
-holding-stored : (call : Call) (cs : List Call) (k : ℕ) (b : Book) → 1 ≤ k → k ≤ 24 → isNoChannel (channelOf call) ≡ false → Full b
+holding-stored : (call : Call) (cs : List Call) (k : ℕ) (b : Book) → 1 ≤ k → k ≤ slots → isNoChannel (channelOf call) ≡ false → Full b
     → Holding (ShownIn cs k) (inSlot b k)
     → Holding (ShownIn (call ∷ cs) k) (inSlot (brought b (showsOf (heldAfter (itself call ∷ callsOn (channelOf call) cs)))) k)
 holding-stored call cs k b least most e full h =
@@ -236,7 +236,7 @@ holding-stored call cs k b least most e full h =
 -- ---- over all calls
 record BookHolds (cs : List Call) (st : Station) : Type 0 where
   full : Full (st .book)
-  holds : (k : ℕ) → 1 ≤ k → k ≤ 24 → Holding (ShownIn cs k) (inSlot (st .book) k)
+  holds : (k : ℕ) → 1 ≤ k → k ≤ slots → Holding (ShownIn cs k) (inSlot (st .book) k)
 
 -- before any call nothing was shown
 none-shown : (k : ℕ) (u : Three) → ShownIn [] k u → ⊥
@@ -314,14 +314,14 @@ book-holds cs st fresh = fresh-holds
 book-holds cs st (offering c epoch s ds before r run o) = step-book c epoch s ds before r run (book-holds ds before run) o
 book-holds cs st (resetting c ds before r run o) = step-empty c ds before r (book-holds ds before run) o
 
--- A BOOK HAS 24 SLOTS, and a slot of it holds the greatest entry that was shown, or none where none was
-pub slot-holds : (cs : List Call) (st : Station) → Runs cs st → (k : ℕ) → 1 ≤ k → k ≤ 24 → Holding (ShownIn cs k) (inSlot (st .book) k)
+-- A BOOK HAS ALL ITS SLOTS, and a slot of it holds the greatest entry that was shown, or none where none was
+pub slot-holds : (cs : List Call) (st : Station) → Runs cs st → (k : ℕ) → 1 ≤ k → k ≤ slots → Holding (ShownIn cs k) (inSlot (st .book) k)
 slot-holds cs st run = book-holds cs st run .holds
 
 pub book-full : (cs : List Call) (st : Station) → Runs cs st → Full (st .book)
 book-full cs st run = book-holds cs st run .full
 
-module _ (cs : List Call) (st : Station) (run : Runs cs st) (k : ℕ) (least : 1 ≤ k) (most : k ≤ 24) where
+module _ (cs : List Call) (st : Station) (run : Runs cs st) (k : ℕ) (least : 1 ≤ k) (most : k ≤ slots) where
   -- EMPTY EXACTLY WHEN NONE WAS SHOWN
   pub empty-exactly : (inSlot (st .book) k .day ≡ 0) ↔ ((u : Three) → ShownIn cs k u → ⊥)
   empty-exactly =

@@ -19,15 +19,15 @@ use Rattle.channel.specs.History.{Call as OnChannel, saidTo, Runs as ChannelRun
 use Rattle.station.specs.declared.Station.{Station}
 use Rattle.station.specs.declared.Stepped.{Stepped}
 use Rattle.station.specs.declared.Emptied.{Emptied}
-use Rattle.station.specs.Station.{freshStation, noRow, rowAt, heldAt, isNoChannel, toldIn, bookAfter, stationAfter, stationReset, OffersTo, Resets}
+use Rattle.station.specs.Station.{channels, lastChannel, freshStation, noRow, rowAt, heldAt, isNoChannel, toldIn, bookAfter, stationAfter, stationReset, OffersTo, Resets}
 use Rattle.station.specs.History.{Call, Offer, Reset, channelOf, itself, callsOn, Runs, fresh, offering, resetting}
 
 -- ---- one row
--- a channel's label is below 24
-pub served-below : (c : ℕ) → isNoChannel c ≡ false → c < 24
-served-below c e = let h : c ≤ 23 = ltb-false 23 c e in omega arith
+-- a channel's label is below the number of channels
+pub served-below : (c : ℕ) → isNoChannel c ≡ false → c < channels
+served-below c e = let h : c ≤ lastChannel = ltb-false lastChannel c e in omega arith
 
-module _ (rows : List Row) (long : length rows ≡ 24) (c k : ℕ) (row : Row) (served : c < 24) where
+module _ (rows : List Row) (long : length rows ≡ channels) (c k : ℕ) (row : Row) (served : c < channels) where
   -- the row that is put back, and the others
   put-same : getD (set rows c row) c noRow ≡ row
   put-same = getD-set-same rows c row noRow (omega arith)
@@ -63,9 +63,9 @@ pub calls-other : (c : ℕ) (call : Call) (cs : List Call) → eqb (channelOf ca
 unfolding callsOn
 calls-other c call cs e = rw e
 
--- ---- 24 rows, each a channel's run
+-- ---- the rows, each a channel's run
 pub record InStep (cs : List Call) (st : Station) : Type 0 where
-  pub long : length (st .rows) ≡ 24
+  pub long : length (st .rows) ≡ channels
   pub run : (c : ℕ) → isNoChannel c ≡ false → ChannelRuns (callsOn c cs) (rowAt st c)
 
 -- a call on no channel leaves all as it was
@@ -116,13 +116,13 @@ unfolding Offers
 row-offers st c epoch s r e o = record { answer = own-answer st c epoch s r e o; left = refl }
 
 -- a fresh station
-fresh-long : length (freshStation .rows) ≡ 24
+fresh-long : length (freshStation .rows) ≡ channels
 unfolding freshStation
-fresh-long = length-replicate 24 emptyRow
+fresh-long = length-replicate channels emptyRow
 
 fresh-at : (c : ℕ) → isNoChannel c ≡ false → rowAt freshStation c ≡ emptyRow
 unfolding freshStation
-fresh-at c e = getD-replicate 24 c emptyRow noRow (served-below c e)
+fresh-at c e = getD-replicate channels c emptyRow noRow (served-below c e)
 
 step-fresh : InStep [] freshStation
 unfolding callsOn

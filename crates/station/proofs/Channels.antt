@@ -1,4 +1,4 @@
--- A station's calls are refused with CHANNEL exactly where the channel is above 23 (channel-exactly).
+-- A station's calls are refused with CHANNEL exactly where the channel is above the highest (channel-exactly).
 -- Assumes nothing.
 use mathlib.Core.Path.{_≡_, ap, _∙_}
 use mathlib.Core.List.{List, [], _∷_}
@@ -10,16 +10,16 @@ use lib.Dec.{ltb→lt}
 use lib.ListN.{length, getD}
 use Rattle.strings.specs.Numbers.{Test, test, answerOf, Exactly}
 use Rattle.station.specs.declared.Station.{Station}
-use Rattle.station.specs.Station.{isNoChannel}
+use Rattle.station.specs.Station.{lastChannel, isNoChannel}
 use Rattle.station.specs.Queries.{FindsTallies, FindsHealth}
 use Rattle.station.specs.Channels.{ChannelExactly}
 use Rattle.station.proofs.EveryCall.{station-numbers}
 
 -- an answer by tests of which CHANNEL is the first
 exact : (c : ℕ) (ts : List Test) (told said : List ℕ) → said ≡ answerOf (test 1 (isNoChannel c) ∷ ts) told → Exactly (test 1 (isNoChannel c) ∷ ts) said
-    → (said ≡ 1 ∷ []) ↔ (23 < c)
+    → (said ≡ 1 ∷ []) ↔ (lastChannel < c)
 exact c ts told said e x =
-    ((λ f. ltb→lt 23 c (x .refused 0 (zero-lt-suc (length ts)) .0 (ap (λ (l : List ℕ). getD l 0 0) f) .0)), (λ h. e ∙ rw (lt-ltb 23 c h)))
+    ((λ f. ltb→lt lastChannel c (x .refused 0 (zero-lt-suc (length ts)) .0 (ap (λ (l : List ℕ). getD l 0 0) f) .0)), (λ h. e ∙ rw (lt-ltb lastChannel c h)))
 
 pub channel-exactly : (st : Station) (c : ℕ) → ChannelExactly st c
 unfolding FindsTallies FindsHealth

@@ -14,7 +14,7 @@ use Rattle.strings.specs.Pick.{pick}
 use Rattle.strings.specs.Number.{wordOf}
 use Rattle.words.specs.Immediate.{stringAt}
 use Rattle.book.specs.Entry.{meaning}
-use Rattle.book.specs.Book.{inSlot}
+use Rattle.book.specs.Book.{slots, inSlot}
 use Rattle.strings.proofs.Below.{both}
 use Rattle.book.proofs.Order.{below-same}
 use Rattle.tallies.specs.declared.Tallies.{Tallies}
@@ -95,7 +95,7 @@ counted cs st run c e =
 pub two-cards : (cs ds : List Call) → SameShown cs ds → SameBooks cs ds
 two-cards cs ds same st st′ run run′ = same-book cs ds st st′ run run′ (λ k u. same k u .0) (λ k u. same k u .1)
 
-pub book-rule : (cs : List Call) (st : Station) → Runs cs st → (slot : ℕ) → 1 ≤ slot → slot ≤ 24 → BookRule cs st slot
+pub book-rule : (cs : List Call) (st : Station) → Runs cs st → (slot : ℕ) → 1 ≤ slot → slot ≤ slots → BookRule cs st slot
 book-rule cs st run slot least most = record { greatest = greatest-there cs st run slot least most; empty = empty-exactly cs st run slot least most }
 
 -- ---- HEALTH
@@ -131,7 +131,7 @@ module _ (cs : List Call) (st : Station) (run : Runs cs st) (c : ℕ) (e : isNoC
   known-there h l n =
       let i = keptAt st c in
       let k = satelliteOf i in
-      let b = both (leb 1 k) (leb k 24) l in
+      let b = both (leb 1 k) (leb k slots) l in
       record {
         one = stringAt (i .strings) 0;
         two = stringAt (i .strings) 1;
@@ -140,7 +140,7 @@ module _ (cs : List Call) (st : Station) (run : Runs cs st) (c : ℕ) (e : isNoC
         kept = sym kept-is ∙ rw h;
         slot = l;
         entry = meaning (inSlot (st .book) k);
-        greatest = greatest-there cs st run k (leb-true 1 k (b .0)) (leb-true k 24 (b .1)) (eqb-false (inSlot (st .book) k .day) 0 n);
+        greatest = greatest-there cs st run k (leb-true 1 k (b .0)) (leb-true k slots (b .1)) (eqb-false (inSlot (st .book) k .day) 0 n);
       }
 
   -- and back
@@ -164,8 +164,8 @@ module _ (cs : List Call) (st : Station) (run : Runs cs st) (c : ℕ) (e : isNoC
     its-slot : satelliteOf (keptAt st c) ≡ n
     its-slot = ap (λ (l : List ℕ). wordOf (getD l 3 0) 15 11) (there .1)
 
-    within : (1 ≤ n) × (n ≤ 24)
-    within = let b = both (leb 1 n) (leb n 24) (w .slot) in (leb-true 1 n (b .0), leb-true n 24 (b .1))
+    within : (1 ≤ n) × (n ≤ slots)
+    within = let b = both (leb 1 n) (leb n slots) (w .slot) in (leb-true 1 n (b .0), leb-true n slots (b .1))
 
     not-empty : inSlot (st .book) n .day ≡ 0 → ⊥
     not-empty z = empty-exactly cs st run n (within .0) (within .1) .0 z (w .entry) (w .greatest .shown)

@@ -14,7 +14,7 @@ use Rattle.book.specs.declared.Book.{Book}
 use Rattle.book.specs.declared.Shown.{Shown}
 use Rattle.book.specs.declared.Shown.the-variants.{Nothing, At}
 use Rattle.book.specs.Entry.{Three, meaning, isBelow, entryOf, greater, blank}
-use Rattle.book.specs.Book.{inSlot, joinedShown}
+use Rattle.book.specs.Book.{slots, inSlot, joinedShown}
 use Rattle.book.proofs.Order.{below-trans, below-irrefl, below-same, blank-below}
 use Rattle.book.proofs.Joins.{Full, shown-nothing, shown-slot, shown-other, shown-full}
 use Rattle.shows.specs.Shows.{brought}
@@ -77,7 +77,7 @@ InShows k u (At j e ∷ ss) = ((j ≡ k) × (u ≡ meaning e)) ⊎ InShows k u s
 -- what is shown is for a slot of the book, and is dated
 abbrev pub Right : Shown → Type 0
 Right Nothing = Unit
-Right (At j e) = (1 ≤ j) × ((j ≤ 24) × Dated e)
+Right (At j e) = (1 ≤ j) × ((j ≤ slots) × Dated e)
 
 abbrev pub AllRight : List Shown → Type 0
 AllRight [] = Unit
@@ -88,7 +88,7 @@ unfolding brought
 brought-full [] b f = f
 brought-full (s ∷ ss) b f = brought-full ss (joinedShown b s) (shown-full b s f)
 
-module _ (k : ℕ) (least : 1 ≤ k) (most : k ≤ 24) where
+module _ (k : ℕ) (least : 1 ≤ k) (most : k ≤ slots) where
   -- the first of them, for this slot or another
   holding-first : (P : Three → Type 0) (j : ℕ) (e : Entry) (ss : List Shown) (b : Book) → Right (At j e) → Full b → Holding P (inSlot b k)
       → ((Q : Three → Type 0) → Holding Q (inSlot (joinedShown b (At j e)) k) → Holding (λ u. Q u ⊎ InShows k u ss) (inSlot (brought (joinedShown b (At j e)) ss) k))

@@ -24,7 +24,7 @@ use Rattle.channel.proofs.Relock.{relock-row}
 use Rattle.station.specs.declared.Station.{Station}
 use Rattle.station.specs.declared.Stepped.{Stepped}
 use Rattle.station.specs.declared.Emptied.{Emptied}
-use Rattle.station.specs.Station.{noRow, rowAt, heldAt, isNoChannel, toldIn, OffersTo, Resets}
+use Rattle.station.specs.Station.{channels, noRow, rowAt, heldAt, isNoChannel, toldIn, OffersTo, Resets}
 use Rattle.station.specs.History.{Call, Offer, Reset, channelOf}
 use Rattle.station.specs.Said.{Said, said, RunsFrom, none, offers, resets, Among}
 use Rattle.station.specs.Demand1.{WellMade}
@@ -34,7 +34,7 @@ use Rattle.station.proofs.WellMade.{offer-made, reset-made}
 
 -- ---- a call touches its own channel's row
 module _ (st : Station) (c : ℕ) where
-  offer-own : (epoch : ℕ) (s : List ℕ) (r : Stepped) → length (st .rows) ≡ 24 → isNoChannel c ≡ false → OffersTo st c epoch s r
+  offer-own : (epoch : ℕ) (s : List ℕ) (r : Stepped) → length (st .rows) ≡ channels → isNoChannel c ≡ false → OffersTo st c epoch s r
       → rowAt (r .station) c ≡ offeredRow (rowAt st c) epoch s
   offer-own epoch s r long e o =
       ap (λ (x : Station). rowAt x c) (o .station ∙ after-some st c epoch s e)

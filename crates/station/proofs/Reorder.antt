@@ -15,7 +15,7 @@ use Rattle.strings.specs.Calls.{writtenPaper}
 use Rattle.book.specs.declared.Entry.{Entry}
 use Rattle.book.specs.declared.Book.{Book}
 use Rattle.book.specs.Entry.{Three, blank}
-use Rattle.book.specs.Book.{inSlot}
+use Rattle.book.specs.Book.{slots, inSlot}
 use Rattle.channel.specs.declared.Row.{Row}
 use Rattle.channel.specs.Frame.{Frame}
 use Rattle.channel.specs.Row.{emptyRow}
@@ -25,7 +25,7 @@ use Rattle.channel.proofs.HeldFrame.{held-is, offered-is}
 use Rattle.station.specs.declared.Station.{Station}
 use Rattle.station.specs.declared.Stepped.{Stepped}
 use Rattle.station.specs.declared.Emptied.{Emptied}
-use Rattle.station.specs.Station.{noRow, rowAt, isNoChannel, OffersTo, Resets}
+use Rattle.station.specs.Station.{lastChannel, noRow, rowAt, isNoChannel, OffersTo, Resets}
 use Rattle.station.specs.History.{Call, Offer, Reset, channelOf, itself, callsOn, saidOn, saidAfter, Part, ShownIn, Runs}
 use Rattle.station.specs.Demand3.{SameCalls}
 use Rattle.station.proofs.ChannelRuns.{in-step, calls-other, own-answer}
@@ -68,7 +68,7 @@ same-shown cs ds same k u w =
 module _ (cs ds : List Call) (st st′ : Station) (run : Runs cs st) (run′ : Runs ds st′) where
   -- that were shown the same entries
   module _ (to : (k : ℕ) (u : Three) → ShownIn cs k u → ShownIn ds k u) (from : (k : ℕ) (u : Three) → ShownIn ds k u → ShownIn cs k u) where
-    same-slot : (k : ℕ) → 1 ≤ k → k ≤ 24 → inSlot (st .book) k ≡ inSlot (st′ .book) k
+    same-slot : (k : ℕ) → 1 ≤ k → k ≤ slots → inSlot (st .book) k ≡ inSlot (st′ .book) k
     same-slot k l m =
         held-once (ShownIn cs k) (ShownIn ds k) (inSlot (st .book) k) (inSlot (st′ .book) k) (to k) (from k) (slot-holds cs st run k l m) (slot-holds ds st′ run′ k l m)
 
@@ -94,7 +94,7 @@ module _ (cs ds : List Call) (st st′ : Station) (run : Runs cs st) (run′ : R
     same-rows : st .rows ≡ st′ .rows
     same-rows =
         let l = in-step cs st run .long in
-        ext-getD noRow (st .rows) (st′ .rows) (l ∙ sym (in-step ds st′ run′ .long)) (λ c h. same-row c (le-ltb 23 c (omega (arith, l))))
+        ext-getD noRow (st .rows) (st′ .rows) (l ∙ sym (in-step ds st′ run′ .long)) (λ c h. same-row c (le-ltb lastChannel c (omega (arith, l))))
 
     -- ARE THE SAME STATION: only each channel's own order counts
     pub reorder : st ≡ st′

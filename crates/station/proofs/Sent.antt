@@ -39,7 +39,7 @@ use Rattle.shows.specs.Shows.{showsOf, brought}
 use Rattle.station.specs.declared.Station.{Station}
 use Rattle.station.specs.declared.Stepped.{Stepped}
 use Rattle.station.specs.declared.TalliesFound.{TalliesFound}
-use Rattle.station.specs.Station.{noRow, rowAt, heldAt, isNoChannel, toldIn, bookAfter, stationAfter, OffersTo}
+use Rattle.station.specs.Station.{channels, lastChannel, noRow, rowAt, heldAt, isNoChannel, toldIn, bookAfter, stationAfter, OffersTo}
 use Rattle.station.specs.Queries.{fourCounts, talliesPaper, FindsTallies}
 use Rattle.station.specs.Sent.{SentString, mOf, SentAs, IsBit, Awaits, talliesAt, SameButVerdict, HeardAsSent}
 
@@ -97,12 +97,12 @@ not-four m = by (leb m 4) (eqb 1 m) (eqb 2 m) refl refl
     by true true false p q = refl
     by true true true p q = let x = eqb-true 1 m p in let y = eqb-true 2 m q in absurd (omega arith)
 
--- ---- the channels 0 to 23 are served
-is-served : (c : ℕ) → c ≤ 23 → isNoChannel c ≡ false
-is-served c l = le-ltb 23 c l
+-- ---- the channels are served
+is-served : (c : ℕ) → c ≤ lastChannel → isNoChannel c ≡ false
+is-served c l = le-ltb lastChannel c l
 
 -- ---- DAMAGED, whatever the channel holds
-damaged : (st : Station) (c epoch k : ℕ) (s : List ℕ) (r : Stepped) → c ≤ 23 → k < 2 ^ 84 → isDamaged (ruling k) ≡ true → SentAs k s
+damaged : (st : Station) (c epoch k : ℕ) (s : List ℕ) (r : Stepped) → c ≤ lastChannel → k < 2 ^ 84 → isDamaged (ruling k) ≡ true → SentAs k s
     → OffersTo st c epoch s r → answerPaper (r .answer) ≡ 3 ∷ []
 damaged st c epoch k s r l h d e o =
     o .answer ∙ rw (is-served c l, sent-shaped k s h e) (damaged-says (plainOf s) (ap (λ (x : ℕ). isDamaged (ruling x)) (sent-plain k s h e) ∙ d) (placeTests (heldAt st c) epoch (wholeOf s)) (toldIn st c epoch s))
@@ -153,20 +153,20 @@ module _ (st : Station) (c epoch n : ℕ) (a : Awaits st c epoch n) (idle : bitO
     unfolding stationAfter
     station-left = o .station ∙ rw (is-served c (a .served)) (ap₂ (λ (x : Row) (b : Book). record { rows = set (st .rows) c x; book = b }) row-left book-left)
 
-    its-row : length (st .rows) ≡ 24 → rowAt (r .station) c ≡ next
+    its-row : length (st .rows) ≡ channels → rowAt (r .station) c ≡ next
     its-row long = ap (λ (x : Station). rowAt x c) station-left ∙ getD-set-same (st .rows) c next noRow (omega (arith, a .served))
 
     other-row : (k : ℕ) → (k ≡ c → ⊥) → rowAt (r .station) k ≡ rowAt st k
     other-row k d = ap (λ (x : Station). rowAt x k) station-left ∙ getD-set-other (st .rows) c k next noRow d
 
   -- and the tallies that are then told
-  told : (r : Stepped) (t : TalliesFound) → OffersTo st c epoch s r → length (st .rows) ≡ 24 → FindsTallies (r .station) c t
+  told : (r : Stepped) (t : TalliesFound) → OffersTo st c epoch s r → length (st .rows) ≡ channels → FindsTallies (r .station) c t
       → talliesPaper t ≡ 0 ∷ fourCounts (afterOffer (Taken v) (talliesAt st c))
   unfolding FindsTallies counted takenRow
   told r t o long f = f ∙ rw (is-served c (a .served)) (ap (λ (z : Row). 0 ∷ fourCounts (z .tallies)) (its-row r o long))
 
 -- ---- the string as it is and with bit i wrong leave one station, but for the verdict's tally
-same-left : (st : Station) (c epoch n : ℕ) → SentString n → (i : ℕ) (s t : List ℕ) (q r : Stepped) → length (st .rows) ≡ 24 → Awaits st c epoch n
+same-left : (st : Station) (c epoch n : ℕ) → SentString n → (i : ℕ) (s t : List ℕ) (q r : Stepped) → length (st .rows) ≡ channels → Awaits st c epoch n
     → IsBit i → (i ≡ 8 → ⊥) → SentAs n s → OffersTo st c epoch s q → SentAs (flip n i) t → OffersTo st c epoch t r
     → SameButVerdict st c (q .station) (r .station)
 unfolding counted takenRow

@@ -20,7 +20,7 @@ use Rattle.channel.proofs.HeldFrame.{offered-long}
 use Rattle.station.specs.declared.Station.{Station}
 use Rattle.station.specs.declared.Stepped.{Stepped}
 use Rattle.station.specs.declared.Emptied.{Emptied}
-use Rattle.station.specs.Station.{freshStation, noRow, rowAt, isNoChannel, bookAfter, OffersTo, Resets}
+use Rattle.station.specs.Station.{channels, freshStation, noRow, rowAt, isNoChannel, bookAfter, OffersTo, Resets}
 use Rattle.station.specs.History.{Call, Runs, fresh, offering, resetting}
 use Rattle.station.specs.Demand1.{WellMade}
 use Rattle.station.proofs.ChannelRuns.{served-below, after-none, after-some, reset-none, reset-some}
@@ -31,8 +31,8 @@ fresh-made : WellMade freshStation
 unfolding freshStation emptyRow
 fresh-made =
     record {
-      rows = length-replicate 24 emptyRow;
-      strings = λ c e. ap (λ (x : Row). length (x .strings)) (getD-replicate 24 c emptyRow noRow (served-below c e)) ∙ length-replicate {A = ℕ} 165 0;
+      rows = length-replicate channels emptyRow;
+      strings = λ c e. ap (λ (x : Row). length (x .strings)) (getD-replicate channels c emptyRow noRow (served-below c e)) ∙ length-replicate {A = ℕ} 165 0;
       entries = empty-full;
     }
 

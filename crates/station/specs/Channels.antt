@@ -12,12 +12,12 @@ use Rattle.station.specs.declared.Emptied.{Emptied}
 use Rattle.station.specs.declared.RecordFound.{RecordFound}
 use Rattle.station.specs.declared.TalliesFound.{TalliesFound}
 use Rattle.station.specs.declared.HealthFound.{HealthFound}
-use Rattle.station.specs.Station.{OffersTo, Resets}
+use Rattle.station.specs.Station.{lastChannel, OffersTo, Resets}
 use Rattle.station.specs.Queries.{recordPaper, talliesPaper, healthPaper, FindsRecord, FindsTallies, FindsHealth}
 
--- an answer is CHANNEL exactly above 23
+-- an answer is CHANNEL exactly above the highest channel
 abbrev Exact : ℕ → List ℕ → Type 0
-Exact c said = (said ≡ 1 ∷ []) ↔ (23 < c)
+Exact c said = (said ≡ 1 ∷ []) ↔ (lastChannel < c)
 
 pub record ChannelExactly (st : Station) (c : ℕ) : Type 0 where
   pub offer : (epoch : ℕ) (s : List ℕ) (r : Stepped) → OffersTo st c epoch s r → Exact c (answerPaper (r .answer))

@@ -17,6 +17,7 @@ use Rattle.records.specs.declared.kinds.Kind.{Kind}
 use Rattle.records.specs.declared.named.Record.{Record}
 use Rattle.words.specs.declared.reading.Reading.{Reading}
 use Rattle.words.specs.Calls.{readTests, readingPaper, Reads, writeTests, Writes}
+use Rattle.book.specs.Book.{slots}
 use Rattle.channel.specs.Offers.{answerPaper, OnlyCounted}
 use Rattle.station.specs.declared.Station.{Station}
 use Rattle.station.specs.declared.Stepped.{Stepped}
@@ -25,7 +26,7 @@ use Rattle.station.specs.declared.RecordFound.{RecordFound}
 use Rattle.station.specs.declared.EntryFound.{EntryFound}
 use Rattle.station.specs.declared.TalliesFound.{TalliesFound}
 use Rattle.station.specs.declared.HealthFound.{HealthFound}
-use Rattle.station.specs.Station.{rowAt, isNoChannel, stationTests, OffersTo, Resets}
+use Rattle.station.specs.Station.{channels, rowAt, isNoChannel, stationTests, OffersTo, Resets}
 use Rattle.station.specs.Queries.{recordTests, recordPaper, FindsRecord, entryTests, entryPaper, FindsEntry, talliesPaper, FindsTallies, healthPaper, FindsHealth}
 
 -- ---- "Every call answers, for every input and every station it is handed"
@@ -69,11 +70,11 @@ pub record StringNumbers : Type 0 where
   pub write : (m : ℕ) (w : Record) (out : List ℕ) (r : Written) (out′ : List ℕ) → Writes m w out r out′ → Exactly (writeTests m w out) (writtenPaper r)
 
 -- ---- "a refused string changes nothing but its channel's tallies of strings offered and refused"
--- what the types say of a station: 24 rows of fifteen strings and 24 entries. "For every station" supposes no more
+-- what the types say of a station: a row of fifteen strings for each channel and an entry for each slot. "For every station" supposes no more
 pub record WellMade (st : Station) : Type 0 where
-  pub rows : length (st .rows) ≡ 24
+  pub rows : length (st .rows) ≡ channels
   pub strings : (c : ℕ) → isNoChannel c ≡ false → length (rowAt st c .strings) ≡ 165
-  pub entries : length (st .book .entries) ≡ 24
+  pub entries : length (st .book .entries) ≡ slots
 
 pub record RefusalLeaves (st : Station) (c : ℕ) (st′ : Station) : Type 0 where
   pub book : st′ .book ≡ st .book

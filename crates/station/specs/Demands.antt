@@ -8,6 +8,7 @@ use mathlib.Core.List.{List, _∷_, _++_}
 use mathlib.Core.Path.{_≡_}
 use lib.ListN.{length}
 use Rattle.strings.specs.Hamming.{Encoded}
+use Rattle.book.specs.Book.{slots}
 use Rattle.channel.specs.Offers.{isTaken}
 use Rattle.channel.specs.Relock.{Heard, FirstOf15}
 use Rattle.station.specs.declared.Station.{Station}
@@ -74,7 +75,7 @@ pub record AllDemands : Type 0 where
   pub two-cards : (cs ds : List Call) → SameShown cs ds → SameBooks cs ds
   -- "And at all times an almanac slot holds the greatest entry, by day and then by bits, that any channel has shown since the start, both halves and the
   -- day coming from one frame of one channel; a slot is empty exactly when none was shown."
-  pub book : (cs : List Call) (st : Station) → Runs cs st → (slot : ℕ) → 1 ≤ slot → slot ≤ 24 → BookRule cs st slot
+  pub book : (cs : List Call) (st : Station) → Runs cs st → (slot : ℕ) → 1 ≤ slot → slot ≤ slots → BookRule cs st slot
   -- ==== the paper: "After a string is taken at epoch e, frames at a steady 15-epoch beat are heard again"
   pub every-beat : EveryBeat
   pub relock : (st : Station) (c : ℕ) (taken : Heard) (r : Stepped) → WellMade st → isNoChannel c ≡ false

@@ -13,7 +13,7 @@ use Rattle.words.specs.Immediate.{stringAt, immediateOf}
 use Rattle.book.specs.declared.Entry.{Entry}
 use Rattle.book.specs.declared.Book.{Book}
 use Rattle.book.specs.Entry.{Three, meaning}
-use Rattle.book.specs.Book.{inSlot}
+use Rattle.book.specs.Book.{slots, inSlot}
 use Rattle.immediate.specs.declared.Immediate.{Immediate}
 use Rattle.tallies.specs.declared.Tallies.{Tallies}
 use Rattle.immediate.specs.Kept.{hasRecord}
@@ -50,7 +50,7 @@ pub record FindsRecord (st : Station) (c : ℕ) (r : RecordFound) : Type 0 where
 -- ---- an entry: 14, 13
 -- SLOT: "slot not 1..24"
 abbrev pub isSlot : ℕ → Bool
-isSlot k = leb 1 k && leb k 24
+isSlot k = leb 1 k && leb k slots
 
 -- a slot is empty where its day is 0
 abbrev pub isEmpty : Book → ℕ → Bool

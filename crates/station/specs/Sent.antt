@@ -19,7 +19,7 @@ use Rattle.channel.specs.Offers.{answerPaper}
 use Rattle.station.specs.declared.Station.{Station}
 use Rattle.station.specs.declared.Stepped.{Stepped}
 use Rattle.station.specs.declared.TalliesFound.{TalliesFound}
-use Rattle.station.specs.Station.{freshStation, rowAt, OffersTo}
+use Rattle.station.specs.Station.{channels, lastChannel, freshStation, rowAt, OffersTo}
 use Rattle.station.specs.Queries.{talliesPaper, FindsTallies}
 
 -- ---- a string, and how it is sent
@@ -41,9 +41,9 @@ SentAs n s = (s ≡ stringBytes (writeRelative n)) ⊎ (s ≡ stringBytes (inver
 abbrev pub IsBit : ℕ → Type 0
 IsBit i = (1 ≤ i) × (i ≤ 84)
 
--- ---- where it is offered: on one of the channels 0 to 23, none of whose fifteen strings is present, and not before its frame can have begun
+-- ---- where it is offered: on one of the channels, none of whose fifteen strings is present, and not before its frame can have begun
 pub record Awaits (st : Station) (c epoch n : ℕ) : Type 0 where
-  pub served : c ≤ 23
+  pub served : c ≤ lastChannel
   pub no-frame : rowAt st c .present % 2 ^ 15 ≡ 0
   pub numbered : 1 ≤ mOf n
   pub not-early : mOf n - 1 ≤ epoch
@@ -75,25 +75,25 @@ pub record HeardAsSent (st : Station) (c epoch n : ℕ) : Type 0 where
   -- "one flip is repaired unless it is bit 8": taken, the m that was sent, repaired with the bit named, and kept
   pub one-flip : (i : ℕ) (s : List ℕ) (r : Stepped) → Awaits st c epoch n → IsBit i → (i ≡ 8 → ⊥) → SentAs (flip n i) s → OffersTo st c epoch s r
       → answerPaper (r .answer) ≡ 0 ∷ mOf n ∷ 1 ∷ i ∷ 1 ∷ []
-  -- and of a station that has its 24 rows it leaves what the string leaves that was sent
-  pub left : (i : ℕ) (s t : List ℕ) (q r : Stepped) → length (st .rows) ≡ 24 → Awaits st c epoch n → IsBit i → (i ≡ 8 → ⊥)
+  -- and of a station that has its rows it leaves what the string leaves that was sent
+  pub left : (i : ℕ) (s t : List ℕ) (q r : Stepped) → length (st .rows) ≡ channels → Awaits st c epoch n → IsBit i → (i ≡ 8 → ⊥)
       → SentAs n s → OffersTo st c epoch s q → SentAs (flip n i) t → OffersTo st c epoch t r → SameButVerdict st c (q .station) (r .station)
   -- the tallies that are then told: offered, clean, repaired, refused
-  pub clean-told : (s : List ℕ) (r : Stepped) (t : TalliesFound) → length (st .rows) ≡ 24 → Awaits st c epoch n → SentAs n s → OffersTo st c epoch s r
+  pub clean-told : (s : List ℕ) (r : Stepped) (t : TalliesFound) → length (st .rows) ≡ channels → Awaits st c epoch n → SentAs n s → OffersTo st c epoch s r
       → FindsTallies (r .station) c t
       → talliesPaper t ≡ 0 ∷ oneMore (talliesAt st c .offered) ∷ oneMore (talliesAt st c .clean) ∷ talliesAt st c .repaired ∷ talliesAt st c .refused ∷ []
-  pub repaired-told : (i : ℕ) (s : List ℕ) (r : Stepped) (t : TalliesFound) → length (st .rows) ≡ 24 → Awaits st c epoch n → IsBit i → (i ≡ 8 → ⊥)
+  pub repaired-told : (i : ℕ) (s : List ℕ) (r : Stepped) (t : TalliesFound) → length (st .rows) ≡ channels → Awaits st c epoch n → IsBit i → (i ≡ 8 → ⊥)
       → SentAs (flip n i) s → OffersTo st c epoch s r → FindsTallies (r .station) c t
       → talliesPaper t ≡ 0 ∷ oneMore (talliesAt st c .offered) ∷ talliesAt st c .clean ∷ oneMore (talliesAt st c .repaired) ∷ talliesAt st c .refused ∷ []
   -- "a flip of bit 8 alone is refused", and "every two flips are DAMAGED": whatever the channel holds, at every epoch
-  pub bit-8 : (s : List ℕ) (r : Stepped) → c ≤ 23 → SentAs (flip n 8) s → OffersTo st c epoch s r → answerPaper (r .answer) ≡ 3 ∷ []
-  pub two-flips : (i j : ℕ) (s : List ℕ) (r : Stepped) → c ≤ 23 → IsBit i → IsBit j → (i ≡ j → ⊥) → SentAs (flip (flip n i) j) s → OffersTo st c epoch s r
-      → answerPaper (r .answer) ≡ 3 ∷ []
+  pub bit-8 : (s : List ℕ) (r : Stepped) → c ≤ lastChannel → SentAs (flip n 8) s → OffersTo st c epoch s r → answerPaper (r .answer) ≡ 3 ∷ []
+  pub two-flips : (i j : ℕ) (s : List ℕ) (r : Stepped) → c ≤ lastChannel → IsBit i → IsBit j → (i ≡ j → ⊥) → SentAs (flip (flip n i) j) s
+      → OffersTo st c epoch s r → answerPaper (r .answer) ≡ 3 ∷ []
 
 -- ---- such strings there are: the paper's A, on the last channel of a fresh station at epoch 0
 pub record SentWitness : Type 0 where
   pub A-good : SentString a
-  pub A-awaited : Awaits freshStation 23 0 a
+  pub A-awaited : Awaits freshStation lastChannel 0 a
   pub A-number : mOf a ≡ 1
 
 pub sent-witness : SentWitness

@@ -4,15 +4,15 @@ use Prim.Native.Nat.{ℕ, _<_}
 use mathlib.Core.List.{[], _∷_}
 use mathlib.Core.Logic.{_⊎_, _↔_}
 use mathlib.Core.Path.{_≡_}
-use Rattle.book.specs.Book.{emptyBook}
+use Rattle.book.specs.Book.{slots, emptyBook}
 use Rattle.station.specs.declared.Station.{Station}
 use Rattle.station.specs.declared.EntryFound.{EntryFound}
 use Rattle.station.specs.Station.{freshStation}
 use Rattle.station.specs.Queries.{entryPaper, FindsEntry}
 
--- exactly for 0 and above 24
+-- exactly for 0 and above the last
 abbrev pub SlotExactly : Type 0
-SlotExactly = (st : Station) (slot : ℕ) (r : EntryFound) → FindsEntry st slot r → (entryPaper r ≡ 14 ∷ []) ↔ ((slot ≡ 0) ⊎ (24 < slot))
+SlotExactly = (st : Station) (slot : ℕ) (r : EntryFound) → FindsEntry st slot r → (entryPaper r ≡ 14 ∷ []) ↔ ((slot ≡ 0) ⊎ (slots < slot))
 
 -- the edges, of a fresh station: NOTHING for the last slot, SLOT for the next and for 0
 pub record SlotEdges : Type 0 where

@@ -1,7 +1,7 @@
 -- A station: 24 rows and one book, and what an offer and a reset make of it (the paper, "Frames and the book" and "Numbers that say no"). For every
 -- station value.
 -- Assumes nothing.
-use Prim.Native.Nat.{ℕ}
+use Prim.Native.Nat.{ℕ, _-_}
 use mathlib.Core.Bool.{Bool}
 use mathlib.Core.List.{List, [], _∷_}
 use mathlib.Core.Path.{_≡_}
@@ -23,11 +23,18 @@ use Rattle.station.specs.declared.Station.{Station}
 use Rattle.station.specs.declared.Stepped.{Stepped}
 use Rattle.station.specs.declared.Emptied.{Emptied}
 
+-- how many channels a station has, and the highest
+abbrev pub channels : ℕ
+channels = 24
+
+abbrev pub lastChannel : ℕ
+lastChannel = channels - 1
+
 -- "A fresh station is all empty"
 unfoldable pub freshStation : Station
-freshStation = record { rows = replicate 24 emptyRow; book = emptyBook }
+freshStation = record { rows = replicate channels emptyRow; book = emptyBook }
 
--- past the 24 rows stands a row of nothing, which no call looks at
+-- past the rows stands a row of nothing, which no call looks at
 unfoldable pub noRow : Row
 noRow = record { strings = []; start = 0; present = 0; immediate = record { strings = [] }; tallies = noneCounted }
 
@@ -40,7 +47,7 @@ heldAt st c = frameOf (rowAt st c)
 
 -- CHANNEL: "channel above 23"
 abbrev pub isNoChannel : ℕ → Bool
-isNoChannel c = ltb 23 c
+isNoChannel c = ltb lastChannel c
 
 -- the one test of the calls that only need a channel
 abbrev pub channelTests : ℕ → List Test

@@ -22,6 +22,9 @@ use tallies::Tallies;
 // How many channels a station has.
 pub const CHANNELS: usize = 24;
 
+// The highest channel.
+pub const LAST_CHANNEL: u8 = (CHANNELS - 1) as u8;
+
 // All that the card knows: a row for each channel, and the almanac book that they share.
 #[repr(C)]
 pub struct Station {

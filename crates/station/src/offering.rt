@@ -1,6 +1,7 @@
 // The calls that change a station.
 use crate::CHANNELS;
 use crate::Emptied;
+use crate::LAST_CHANNEL;
 use crate::Station;
 use crate::Stepped;
 use book::Book;
@@ -35,7 +36,7 @@ pub fn fresh() -> Station
 pub fn offer(mut st: Station, channel: u8, epoch: u32, s: &[u8]) -> Stepped
     ensures { λ r. ⌜ OffersTo st channel epoch (now (s .entry)) r ⌝ }
 {
-    if 23 < channel {
+    if LAST_CHANNEL < channel {
         return Stepped {
             station: st,
             answer: Answer::Refused(Refusal::Channel),
@@ -67,7 +68,7 @@ fn bring_if(answer: Answer, row: Row, b: Book) -> Book
 pub fn reset(mut st: Station, channel: u8) -> Emptied
     ensures { λ r. ⌜ Resets st channel r ⌝ }
 {
-    if 23 < channel {
+    if LAST_CHANNEL < channel {
         return Emptied {
             station: st,
             answer: Written::Refused(Refusal::Channel),

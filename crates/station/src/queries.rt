@@ -2,10 +2,12 @@
 use crate::EntryFound;
 use crate::Health;
 use crate::HealthFound;
+use crate::LAST_CHANNEL;
 use crate::RecordFound;
 use crate::Station;
 use crate::TalliesFound;
 use book::Book;
+use book::LAST_SLOT;
 use book::entry_in;
 use immediate::Immediate;
 use immediate::has_record;
@@ -20,7 +22,7 @@ ghost use Rattle.station.specs.Queries.{FindsRecord, FindsEntry, FindsTa
 pub fn immediate_of(st: Station, channel: u8) -> RecordFound
     ensures { λ r. ⌜ FindsRecord st channel r ⌝ }
 {
-    if 23 < channel {
+    if LAST_CHANNEL < channel {
         return RecordFound::Refused(Refusal::Channel);
     }
     let i = channel as usize;
@@ -33,14 +35,14 @@ pub fn immediate_of(st: Station, channel: u8) -> RecordFound
     RecordFound::Found(immediate_words(s))
 }
 
-// The entry of a slot; the book's slots are 1 to 24.
+// The entry of a slot; the book's slots are numbered from 1.
 pub fn entry_of(st: Station, slot: u8) -> EntryFound
     ensures { λ r. ⌜ FindsEntry st slot r ⌝ }
 {
     if slot == 0 {
         return EntryFound::Refused(Refusal::Slot);
     }
-    if 24 < slot {
+    if LAST_SLOT < slot {
         return EntryFound::Refused(Refusal::Slot);
     }
     let b = st.book;
@@ -55,7 +57,7 @@ pub fn entry_of(st: Station, slot: u8) -> EntryFound
 pub fn tallies_of(st: Station, channel: u8) -> TalliesFound
     ensures { λ r. ⌜ FindsTallies st channel r ⌝ }
 {
-    if 23 < channel {
+    if LAST_CHANNEL < channel {
         return TalliesFound::Refused(Refusal::Channel);
     }
     let i = channel as usize;
@@ -68,7 +70,7 @@ pub fn tallies_of(st: Station, channel: u8) -> TalliesFound
 pub fn health_of(st: Station, channel: u8) -> HealthFound
     ensures { λ r. ⌜ FindsHealth st channel r ⌝ }
 {
-    if 23 < channel {
+    if LAST_CHANNEL < channel {
         return HealthFound::Refused(Refusal::Channel);
     }
     let i = channel as usize;
@@ -90,7 +92,7 @@ fn health_by(kept: Immediate, b: Book) -> Health
     if n == 0 {
         return Health::Unknown;
     }
-    if 24 < n {
+    if (LAST_SLOT as u32) < n {
         return Health::Unknown;
     }
     let e = entry_in(b, n as u8);

@@ -1,9 +1,10 @@
 -- Table 4.13 of the ICD as it is printed, and that the position rule makes it: for each sum C_k, the data bits 9..85 that it adds beside check bit k.
 -- Assumes nothing.
 use Prim.Native.Nat.{ℕ, zero, suc, _+_, _-_}
-use mathlib.Core.Bool.{Bool, true, false, _&&_, _||_, Bool·beq}
+use mathlib.Core.Bool.{Bool, true, _&&_, Bool·beq}
 use mathlib.Core.List.{List, [], _∷_, _++_}
 use lib.Dec.{T, eqb}
+use Rattle.strings.specs.Pick.{isOneOf}
 use Rattle.strings.specs.Number.{bitOf}
 use Rattle.strings.specs.Hamming.{position}
 
@@ -43,14 +44,9 @@ C6 = 35 to 65
 abbrev pub C7 : List ℕ
 C7 = 66 to 85
 
--- the list has the number
-abbrev pub has : List ℕ → ℕ → Bool
-has [] i = false
-has (x ∷ xs) i = eqb x i || has xs i
-
 -- the position of a bit has the weight 2^(k-1) exactly where the list has the bit
 abbrev agrees : ℕ → List ℕ → ℕ → Bool
-agrees k l i = Bool·beq (eqb (bitOf (position i) k) 1) (has l i)
+agrees k l i = Bool·beq (eqb (bitOf (position i) k) 1) (isOneOf l i)
 
 abbrev alike : List ℕ → ℕ → List ℕ → Bool
 alike [] k l = true

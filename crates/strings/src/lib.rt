@@ -14,6 +14,7 @@ pub use hamming::Damage;
 pub use hamming::Ruling;
 pub use hamming::make_check_bits;
 pub use numbers::refusal_number;
+pub use numbers::wide;
 
 // The numbers that say no, in the paper's order. RANGE tells its place: the top bit number of the
 // word that failed.

@@ -1,6 +1,7 @@
-// A refusal in the paper's numbers.
+// A refusal in the paper's numbers, and a byte as a longer number.
 use crate::Refusal;
 ghost use mathlib.Core.Path.{_≡_};
+ghost use Prim.Native.Nat.{_<_};
 ghost use lib.ListN.{getD};
 ghost use Rattle.strings.specs.Numbers.{refusalPaper};
 
@@ -24,4 +25,12 @@ pub fn refusal_number(r: Refusal) -> u8
         Refusal::Nothing => 13,
         Refusal::Slot => 14,
     }
+}
+
+// A byte as a number of 32 bits, as the card's core computes. The bound keeps sums of bytes, and a length
+// that a byte names, in range.
+pub fn wide(x: u8) -> u32
+    ensures { λ r. ⌜ (r ≡ x) × (r < 256) ⌝ }
+{
+    x as u32
 }

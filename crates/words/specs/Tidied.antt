@@ -10,7 +10,7 @@ use lib.ListN.{getD}
 use Rattle.strings.specs.Pick.{pick}
 use Rattle.strings.specs.Number.{wordOf, bitOf}
 use Rattle.strings.specs.Hamming.{Encoded, encode}
-use Rattle.strings.specs.Table413.{has}
+use Rattle.strings.specs.Pick.{isOneOf}
 use Rattle.layout.specs.declared.table.Form.{Form}
 use Rattle.layout.specs.declared.table.Form.the-variants.{Plain, Signed, Time, Interval, Day, Slot, Carrier}
 use Rattle.layout.specs.declared.table.Word.{Word}
@@ -71,4 +71,4 @@ pub record NoStray (k : Kind) (n : ℕ) : Type 0 where
   -- a bit 9..80 in no word is 0
   pub unused : (i : ℕ) → 9 ≤ i → i ≤ 80 → inWords (layout k) i ≡ false → bitOf n i ≡ 0
   -- and so is each bit that Table 4.12 prints
-  pub printed : (i : ℕ) → T (has (reserved k) i) → bitOf n i ≡ 0
+  pub printed : (i : ℕ) → T (isOneOf (reserved k) i) → bitOf n i ≡ 0

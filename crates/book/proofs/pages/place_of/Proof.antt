@@ -1,7 +1,8 @@
--- `pages::place_of` meets its contract: a shown entry is for a slot from 1 to 24. Assumes nothing.
+-- `pages::place_of` meets its contract: a shown entry is for a slot of the book. Assumes nothing.
 use Prim.Native.Nat.{_≤_}
 use native.Mathlib.Omega.{arith}
 use borrow.Author.Needs.{needs}
+use Rattle.book.specs.Book.{slots}
 use Rattle.book.proofs.pages.place_of.Statement.{statement}
 use Rattle.book.proofs.pages.place_of.Tie as tie
 
@@ -12,7 +13,7 @@ enum-known-s : tie.Need-enum-known-s
 enum-known-s c = search needs
 
 -- its slot
-slot : (c : tie.After-known-told) → (1 ≤ c .before .s .given .0 .0) × (c .before .s .given .0 .0 ≤ 24)
+slot : (c : tie.After-known-told) → (1 ≤ c .before .s .given .0 .0) × (c .before .s .given .0 .0 ≤ slots)
 slot c = rw (c .before .s .given .1) at (c .before .before .before .pre)
 
 sub-result : tie.Need-sub-result

@@ -48,7 +48,7 @@ use denote.Triple.Clauses.{lasts}
 use Rattle.book.specs.declared.Entry.{Entry}
 use Rattle.book.specs.declared.Shown.{Shown}
 use Rattle.book.specs.Entry.{blank}
-use Rattle.book.specs.Book.{InBook, placeIn, joinedEntry, risesAbove}
+use Rattle.book.specs.Book.{slots, InBook, placeIn, joinedEntry, risesAbove}
 use Rattle.book.proofs.Joins.{shown-in-place, shown-below}
 use Rattle.book.proofs.Entry as EN
 use Rattle.book.proofs.Entry.Laws as EN′
@@ -71,7 +71,7 @@ use Rattle.station.proofs.Station as ST
 use Rattle.station.proofs.Station.Laws as ST′
 use Rattle.lent.specs.Lent.{BringsOne}
 use Rattle.lent.proofs.Item.{map-set, either-way, lows-set, low-is, low-typed, low-item}
-use Rattle.lent.proofs.Parts.{rowsVal, bookVal, stationVal, rows-of, entries-of, book-made, made-of}
+use Rattle.lent.proofs.Parts.{entryBytes, bookAt, rowsVal, bookVal, stationVal, rows-of, entries-of, book-made, made-of}
 use Rattle.lent.proofs.Walk.{envOf, locals, free-all, asks}
 use Rattle.lent.proofs.offering.bring_one.Key.{name as #lent·bring-one}
 use Rattle.lent.proofs.offering.bring_one as one
@@ -154,11 +154,11 @@ module _ {M : Type 1} (𝓤 : URA M) (H : Heap 𝓤) (A : Atoms 𝓤) (W : Given
   abbrev Whole : Type 0
   Whole = Is ST.the-row h (ST′.lowered h ∷ [])
 
-  in-bytes : (k : ℕ) → k < 24 → k * 24 < 2 ^ 64
+  in-bytes : (k : ℕ) → k < slots → k * entryBytes < 2 ^ 64
   in-bytes k l = omega (arith, l)
 
-  old-is : (k : ℕ) → k < 24 → Whole → Is EN.the-row (entryAt h k) (EN′.lowered (entryAt h k) ∷ [])
-  old-is k l ih = low-is EN.the-type EN′.lowers 24 (h .book .entries) (entries-of h _ ih) k l blank
+  old-is : (k : ℕ) → k < slots → Whole → Is EN.the-row (entryAt h k) (EN′.lowered (entryAt h k) ∷ [])
+  old-is k l ih = low-is EN.the-type EN′.lowers slots (h .book .entries) (entries-of h _ ih) k l blank
 
   entry-typed : (e : Entry) → Is EN.the-row e (EN′.lowered e ∷ []) → T (hasTy EN′.mir (EN′.lowered e)) × WT (EN′.lowered e)
   entry-typed e p = LL.lawful EN.the-type EN′.the-laws 𝓤 H A W .typed e _ p .0
@@ -195,14 +195,14 @@ module _ {M : Type 1} (𝓤 : URA M) (H : Heap 𝓤) (A : Atoms 𝓤) (W : Given
         move ! (1 ∷ []) $ facts ! ST.the-row (Is ST.the-row) (shows 𝓤 H A ST.the-row) h (ST′.lowered h ∷ []) (λ ih.
         use1 W (‵ (fat fullShare ST′.mir b o (stationVal (rowsVal (h .rows)) (bookVal (arrayVal us))))) (W .laws .raw-at fullShare ST′.mir b o (ST′.lowered h)) $
         -- [the station's cell; the open borrow; obs; auth; _16; …; _0; …]: local i is at 36 - 2 · i
-        asks ! fm (Place 𝓤 H A at-mem run) known-place to-place (goes-place is ib) usize (vint w64) (uint-tells w64) (λ r. (r ≡ placeIn s) × (r < 24)) _ (lasts place′.ended tt (s, tt)) (λ u. id⊢ 𝓤 _)
+        asks ! fm (Place 𝓤 H A at-mem run) known-place to-place (goes-place is ib) usize (vint w64) (uint-tells w64) (λ r. (r ≡ placeIn s) × (r < slots)) _ (lasts place′.ended tt (s, tt)) (λ u. id⊢ 𝓤 _)
         (and-then ! (load ! (from ! (stop !)) (look ! 33 refl)) (no-more !)) (λ k ek ik.
         land ! (from ! (stop !)) (init ! 30 refl (uint-lawful 𝓤 H A W w64 .typed k _ ik .0)) $
         assigns ! (bin ! (load ! (from ! (stop !)) (look ! 30 refl)) (lit ! tt) (record { fits = in-bytes k (ek .1) })) (from ! (stop !)) (init ! 26 refl (tt, record { fits = in-bytes k (ek .1) })) $
         assigns ! (addr ! (from ! (hop ! (look ! 34 refl) (fld ! refl (fld ! refl (stop !)))))) (from ! (stop !)) (init ! 24 refl (tt, tt)) $
         assigns ! (bin ! (load ! (from ! (stop !)) (look ! 24 refl)) (load ! (from ! (stop !)) (look ! 26 refl)) tt) (from ! (stop !)) (init ! 22 refl (tt, tt)) $
-        rewrite ! 22 (λ (z : ℕ). ‵ (fat fullShare tyPtr l₇ 0 (vptr b z))) (sym (place-is 24 (o + 5472 + 0) k)) refl $
-        assigns ! (of-opd ! (load ! (from ! (hop ! (look ! 22 refl) (stop !))) (look-in ! 0 (low-item ! EN.the-type EN′.lowers (h .book .entries) (entries-of h _ ih) k (ek .1) blank (sub ! 0 refl (sub ! 1 refl (whole !))))))) (from ! (stop !)) (init ! 20 refl (low-typed EN.the-type EN′.lowers 24 (h .book .entries) (entries-of h _ ih) k (ek .1) blank EN′.mir entry-typed)) $
+        rewrite ! 22 (λ (z : ℕ). ‵ (fat fullShare tyPtr l₇ 0 (vptr b z))) (sym (place-is entryBytes (o + bookAt + 0) k)) refl $
+        assigns ! (of-opd ! (load ! (from ! (hop ! (look ! 22 refl) (stop !))) (look-in ! 0 (low-item ! EN.the-type EN′.lowers (h .book .entries) (entries-of h _ ih) k (ek .1) blank (sub ! 0 refl (sub ! 1 refl (whole !))))))) (from ! (stop !)) (init ! 20 refl (low-typed EN.the-type EN′.lowers slots (h .book .entries) (entries-of h _ ih) k (ek .1) blank EN′.mir entry-typed)) $
         rewrite ! 20 (λ (w : Val). ‵ (fat fullShare EN′.mir l₈ 0 w)) (List·getD-map EN′.lowered (h .book .entries) k blank) refl $
         asks ! fm (Rises 𝓤 H A at-mem run) known-rises (to-rises (entryAt h k)) (goes-rises (entryAt h k) (old-is k (ek .1) ih) is) bool vbool bool-tells (RisesIs (entryAt h k) s) _ (lasts rises′.ended tt (entryAt h k, (s, tt))) (λ u. id⊢ 𝓤 _)
         (and-then ! (load ! (from ! (stop !)) (look ! 21 refl)) (and-then ! (load ! (from ! (stop !)) (look ! 33 refl)) (no-more !))) (λ y ey iy.
@@ -213,8 +213,8 @@ module _ {M : Type 1} (𝓤 : URA M) (H : Heap 𝓤) (A : Atoms 𝓤) (W : Given
         assigns ! (bin ! (load ! (from ! (stop !)) (look ! 30 refl)) (lit ! tt) (record { fits = in-bytes k (ek .1) })) (from ! (stop !)) (init ! 16 refl (tt, record { fits = in-bytes k (ek .1) })) $
         assigns ! (addr ! (from ! (hop ! (look ! 34 refl) (fld ! refl (fld ! refl (stop !)))))) (from ! (stop !)) (init ! 14 refl (tt, tt)) $
         assigns ! (bin ! (load ! (from ! (stop !)) (look ! 14 refl)) (load ! (from ! (stop !)) (look ! 16 refl)) tt) (from ! (stop !)) (init ! 12 refl (tt, tt)) $
-        rewrite ! 12 (λ (z : ℕ). ‵ (fat fullShare tyPtr l₁₂ 0 (vptr b z))) (sym (place-is 24 (o + 5472 + 0) k)) refl $
-        assigns ! (of-opd ! (load ! (from ! (hop ! (look ! 12 refl) (stop !))) (look-in ! 0 (low-item ! EN.the-type EN′.lowers (h .book .entries) (entries-of h _ ih) k (ek .1) blank (sub ! 0 refl (sub ! 1 refl (whole !))))))) (from ! (stop !)) (init ! 10 refl (low-typed EN.the-type EN′.lowers 24 (h .book .entries) (entries-of h _ ih) k (ek .1) blank EN′.mir entry-typed)) $
+        rewrite ! 12 (λ (z : ℕ). ‵ (fat fullShare tyPtr l₁₂ 0 (vptr b z))) (sym (place-is entryBytes (o + bookAt + 0) k)) refl $
+        assigns ! (of-opd ! (load ! (from ! (hop ! (look ! 12 refl) (stop !))) (look-in ! 0 (low-item ! EN.the-type EN′.lowers (h .book .entries) (entries-of h _ ih) k (ek .1) blank (sub ! 0 refl (sub ! 1 refl (whole !))))))) (from ! (stop !)) (init ! 10 refl (low-typed EN.the-type EN′.lowers slots (h .book .entries) (entries-of h _ ih) k (ek .1) blank EN′.mir entry-typed)) $
         rewrite ! 10 (λ (w : Val). ‵ (fat fullShare EN′.mir l₁₃ 0 w)) (List·getD-map EN′.lowered (h .book .entries) k blank) refl $
         asks ! fm (Join 𝓤 H A at-mem run) known-join (to-rises (entryAt h k)) (goes-rises (entryAt h k) (old-is k (ek .1) ih) is) EN.the-row EN′.lowered (EN′.lowers .val-is) (λ r. r ≡ joinedEntry (entryAt h k) s) _ (lasts join′.ended tt (entryAt h k, (s, tt))) (λ u. id⊢ 𝓤 _)
         (and-then ! (load ! (from ! (stop !)) (look ! 11 refl)) (and-then ! (load ! (from ! (stop !)) (look ! 33 refl)) (no-more !))) (λ e ee ie.
@@ -222,7 +222,7 @@ module _ {M : Type 1} (𝓤 : URA M) (H : Heap 𝓤) (A : Atoms 𝓤) (W : Given
         assigns ! (bin ! (load ! (from ! (stop !)) (look ! 30 refl)) (lit ! tt) (record { fits = in-bytes k (ek .1) })) (from ! (stop !)) (init ! 8 refl (tt, record { fits = in-bytes k (ek .1) })) $
         assigns ! (addr ! (from ! (hop ! (look ! 34 refl) (fld ! refl (fld ! refl (stop !)))))) (from ! (stop !)) (init ! 6 refl (tt, tt)) $
         assigns ! (bin ! (load ! (from ! (stop !)) (look ! 6 refl)) (load ! (from ! (stop !)) (look ! 8 refl)) tt) (from ! (stop !)) (init ! 4 refl (tt, tt)) $
-        rewrite ! 4 (λ (z : ℕ). ‵ (fat fullShare tyPtr l₁₆ 0 (vptr b z))) (sym (place-is 24 (o + 5472 + 0) k)) refl $
+        rewrite ! 4 (λ (z : ℕ). ‵ (fat fullShare tyPtr l₁₆ 0 (vptr b z))) (sym (place-is entryBytes (o + bookAt + 0) k)) refl $
         assigns-last ! (of-opd ! (load ! (from ! (stop !)) (look ! 18 refl))) (from ! (hop ! (look ! 4 refl) (stop !))) (store-in ! 0 (low-item ! EN.the-type EN′.lowers (h .book .entries) (entries-of h _ ih) k (ek .1) blank (sub ! 0 refl (sub ! 1 refl (whole !)))) (entry-typed e ie)) $
         exec ! C Λ (En l₀ l₁ l₂ l₃ l₄ l₅ l₆ l₇ l₈ l₉ l₁₀ l₁₁ l₁₂ l₁₃ l₁₄ l₁₅ l₁₆) body.t-8 (atRet (En l₀ l₁ l₂ l₃ l₄ l₅ l₆ l₇ l₈ l₉ l₁₀ l₁₁ l₁₂ l₁₃ l₁₄ l₁₅ l₁₆) Post) $
         rewrite ! 0 (λ (ws : List Val). ‵ (fat fullShare ST′.mir b o (stationVal (rowsVal (h .rows)) (bookVal (arrayVal ws))))) (map-set EN′.lowered (h .book .entries) k e) refl $

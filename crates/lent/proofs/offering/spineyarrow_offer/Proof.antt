@@ -90,14 +90,14 @@ use Rattle.shows.proofs.newly_shown.Symbol.{name as #shows·newly-shown}
 use Rattle.shows.proofs.newly_shown.Met as newly-thm
 use Rattle.station.specs.declared.Station.{Station}
 use Rattle.station.specs.declared.Stepped.{Stepped}
-use Rattle.station.specs.Station.{noRow, OffersTo}
+use Rattle.station.specs.Station.{channels, lastChannel, noRow, OffersTo}
 use Rattle.station.proofs.AfterOffer.{no-channel, after-offer}
 use Rattle.station.proofs.Station as ST
 use Rattle.station.proofs.Station.Laws as ST′
 use Rattle.told.specs.Told.{packed}
 use Rattle.lent.specs.Lent.{OffersLent, BringsOne}
 use Rattle.lent.proofs.Item.{lowly, map-set, item, either-way, lows-set, bytes-is, elem-is, low-is, low-typed, low-item}
-use Rattle.lent.proofs.Parts.{rowsVal, stationVal, rows-of, book-of, made-of}
+use Rattle.lent.proofs.Parts.{rowBytes, rowsVal, stationVal, rows-of, book-of, made-of}
 use Rattle.lent.proofs.Turns.{turns, upTo, all-turns, newly-in}
 use Rattle.lent.proofs.Walk.{envOf, locals, free-all, asks}
 use Rattle.lent.proofs.offering.bring_one as one′
@@ -136,13 +136,13 @@ lent-of st c e s st′ a r er o = record { answer = er ∙ ap packed (o .answer)
 
 -- the test, and what it says of the channel either way
 abbrev isPast : ℕ → Bool
-isPast c = ltb 23 c
+isPast c = ltb lastChannel c
 
-past : (c : ℕ) → T (isPast c) → 23 < c
-past c t = ltb→lt 23 c t
+past : (c : ℕ) → T (isPast c) → lastChannel < c
+past c t = ltb→lt lastChannel c t
 
-within : (c : ℕ) → T (not (isPast c)) → c ≤ 23
-within c n = nltb→le 23 c n
+within : (c : ℕ) → T (not (isPast c)) → c ≤ lastChannel
+within c n = nltb→le lastChannel c n
 
 refused-lent : (st : Station) (c e : ℕ) (s : List ℕ) → T (isPast c) → OffersLent st c e s st 1
 refused-lent st c e s t = lent-of st c e s st (Refused Channel) 1 refl (no-channel st c e s (past c t))
@@ -262,21 +262,21 @@ module _ {M : Type 1} (𝓤 : URA M) (H : Heap 𝓤) (A : Atoms 𝓤) (W : Given
   row-typed : (r : Row) → Is RW.the-row r (RW′.lowered r ∷ []) → T (hasTy RW′.mir (RW′.lowered r)) × WT (RW′.lowered r)
   row-typed r p = LL.lawful RW.the-type RW′.the-laws 𝓤 H A W .typed r _ p .0
 
-  -- what the walk shows, where the channel is one of the 24
+  -- what the walk shows, where there is such a channel
   abbrev Whole : Type 0
   Whole = Is ST.the-row h (ST′.lowered h ∷ [])
 
-  lt24 : T (not (isPast c)) → c < 24
-  lt24 f = omega (arith, within c f)
+  served : T (not (isPast c)) → c < channels
+  served f = omega (arith, within c f)
 
   wide : T (not (isPast c)) → c < 2 ^ 64
-  wide f = omega (arith, lt24 f)
+  wide f = omega (arith, served f)
 
-  in-bytes : T (not (isPast c)) → c * 228 < 2 ^ 64
-  in-bytes f = omega (arith, lt24 f)
+  in-bytes : T (not (isPast c)) → c * rowBytes < 2 ^ 64
+  in-bytes f = omega (arith, served f)
 
   row₀-is : T (not (isPast c)) → Whole → Is RW.the-row row₀ (RW′.lowered row₀ ∷ [])
-  row₀-is f ih = low-is RW.the-type RW′.lowers 24 (h .rows) (rows-of h _ ih) c (lt24 f) noRow
+  row₀-is f ih = low-is RW.the-type RW′.lowers channels (h .rows) (rows-of h _ ih) c (served f) noRow
 
   left-is : (p : Offered) (vs : List Val) → Whole → Is OF.the-row p vs → Is ST.the-row (left h c p (h .book)) (stationVal (rowsVal (set (h .rows) c (p .row))) (BK′.lowered (h .book)) ∷ [])
   left-is p vs ih ip =
@@ -423,8 +423,8 @@ module _ {M : Type 1} (𝓤 : URA M) (H : Heap 𝓤) (A : Atoms 𝓤) (W : Given
           assigns ! (bin ! (load ! (from ! (stop !)) (look ! 42 refl)) (lit ! tt) (record { fits = in-bytes n })) (from ! (stop !)) (init ! 32 refl (tt, record { fits = in-bytes n })) $
           assigns ! (addr ! (from ! (hop ! (look ! 50 refl) (fld ! refl (stop !))))) (from ! (stop !)) (init ! 30 refl (tt, tt)) $
           assigns ! (bin ! (load ! (from ! (stop !)) (look ! 30 refl)) (load ! (from ! (stop !)) (look ! 32 refl)) tt) (from ! (stop !)) (init ! 28 refl (tt, tt)) $
-          rewrite ! 28 (λ (z : ℕ). ‵ (fat fullShare tyPtr l₁₂ 0 (vptr b z))) (sym (place-is 228 (o + 0) c)) refl $
-          assigns ! (of-opd ! (load ! (from ! (hop ! (look ! 28 refl) (stop !))) (look-in ! 0 (low-item ! RW.the-type RW′.lowers (h .rows) (rows-of h _ ih) c (lt24 n) noRow (sub ! 0 refl (whole !)))))) (from ! (stop !)) (init ! 26 refl (low-typed RW.the-type RW′.lowers 24 (h .rows) (rows-of h _ ih) c (lt24 n) noRow RW′.mir row-typed)) $
+          rewrite ! 28 (λ (z : ℕ). ‵ (fat fullShare tyPtr l₁₂ 0 (vptr b z))) (sym (place-is rowBytes (o + 0) c)) refl $
+          assigns ! (of-opd ! (load ! (from ! (hop ! (look ! 28 refl) (stop !))) (look-in ! 0 (low-item ! RW.the-type RW′.lowers (h .rows) (rows-of h _ ih) c (served n) noRow (sub ! 0 refl (whole !)))))) (from ! (stop !)) (init ! 26 refl (low-typed RW.the-type RW′.lowers channels (h .rows) (rows-of h _ ih) c (served n) noRow RW′.mir row-typed)) $
           rewrite ! 26 (λ (w : Val). ‵ (fat fullShare RW′.mir l₁₃ 0 w)) (List·getD-map RW′.lowered (h .rows) c noRow) refl $
           -- the string offered to the row; the slice stays with the callee, its token comes back
           move ! (4 ∷ 5 ∷ []) $ use2 W (raw (Offer 𝓤 H A at-mem run .pre to-offer)) (goes-offer (row₀-is n ih) ge) $
@@ -439,8 +439,8 @@ module _ {M : Type 1} (𝓤 : URA M) (H : Heap 𝓤) (A : Atoms 𝓤) (W : Given
           assigns ! (bin ! (load ! (from ! (stop !)) (look ! 41 refl)) (lit ! tt) (record { fits = in-bytes n })) (from ! (stop !)) (store ! 31 refl (tt, record { fits = in-bytes n })) $
           assigns ! (addr ! (from ! (hop ! (look ! 49 refl) (fld ! refl (stop !))))) (from ! (stop !)) (init ! 23 refl (tt, tt)) $
           assigns ! (bin ! (load ! (from ! (stop !)) (look ! 23 refl)) (load ! (from ! (stop !)) (look ! 31 refl)) tt) (from ! (stop !)) (init ! 21 refl (tt, tt)) $
-          rewrite ! 21 (λ (z : ℕ). ‵ (fat fullShare tyPtr l₁₅ 0 (vptr b z))) (sym (place-is 228 (o + 0) c)) refl $
-          assigns ! (of-opd ! (load ! (from ! (fld ! refl (stop !))) (look-in ! 39 (sub ! 0 refl (whole !))))) (from ! (hop ! (look ! 21 refl) (stop !))) (store-in ! 0 (low-item ! RW.the-type RW′.lowers (h .rows) (rows-of h _ ih) c (lt24 n) noRow (sub ! 0 refl (whole !))) (row-typed (p .row) (row-is p _ ip))) $
+          rewrite ! 21 (λ (z : ℕ). ‵ (fat fullShare tyPtr l₁₅ 0 (vptr b z))) (sym (place-is rowBytes (o + 0) c)) refl $
+          assigns ! (of-opd ! (load ! (from ! (fld ! refl (stop !))) (look-in ! 39 (sub ! 0 refl (whole !))))) (from ! (hop ! (look ! 21 refl) (stop !))) (store-in ! 0 (low-item ! RW.the-type RW′.lowers (h .rows) (rows-of h _ ih) c (served n) noRow (sub ! 0 refl (whole !))) (row-typed (p .row) (row-is p _ ip))) $
           rewrite ! 0 (λ (ws : List Val). ‵ (fat fullShare ST′.mir b o (stationVal (arrayVal ws) (BK′.lowered (h .book))))) (map-set RW′.lowered (h .rows) c (p .row)) refl $
           use1 W (‵ (cellAt fullShare (ST.the-row .mir) (stationVal (rowsVal (set (h .rows) c (p .row))) (BK′.lowered (h .book)) ∷ []) b o)) (W .laws .at-raw fullShare ST′.mir b o (stationVal (rowsVal (set (h .rows) c (p .row))) (BK′.lowered (h .book)))) $
           owned ! ST.the-row (Is ST.the-row) (LL.makes ST.the-type ST′.the-plain 𝓤 H A) (left h c p (h .book)) _ (left-is p _ ih ip) $ move ! (1 ∷ 0 ∷ []) $ closes ! tt ST.the-row (left h c p (h .book)) (stationVal (rowsVal (set (h .rows) c (p .row))) (BK′.lowered (h .book)) ∷ []) b o $

@@ -2,7 +2,7 @@
 use native.Mathlib.Omega.{arith}
 use borrow.Author.Tests.{eq-eqb, ne-eqb}
 use Rattle.lines.specs.Text.{leftOver}
-use Rattle.lines.proofs.Decimal.{byte-cell}
+use Rattle.lines.proofs.Decimal.{cell-length}
 use Rattle.lines.proofs.Pieces.{puts-room, puts-more, puts-none}
 use borrow.Author.Needs.{needs}
 use Rattle.lines.proofs.printing.put_left_over.Statement.{statement}
@@ -22,7 +22,7 @@ put-number-requires : tie.Need-put-number-requires
 put-number-requires c κs =
     let p = c .before .before .before in
     let a = p .before .before .before .before .before in
-    omega (arith, a .pre, byte-cell (a .args .count) 10 (omega (arith, a .pre .1)), p .put .ensures .past, puts-room (p .put .ensures))
+    omega (arith, a .pre, cell-length 2 (a .args .count) 10 (omega arith) (omega (arith, a .pre .1)), p .put .ensures .past, puts-room (p .put .ensures))
 
 same-length : tie.Need-same-length
 same-length c = search needs
@@ -35,7 +35,7 @@ returns-2 c =
     let a = p .before .before .before .before .before in
     rw (ne-eqb (a .args .count) 0 (p .before .before .before .if1 .left)) (
       puts-more (p .put .ensures) (n .put-number .ensures),
-      omega (arith, byte-cell (a .args .count) 10 (omega (arith, a .pre .1)), p .put .ensures .past, n .put-number .ensures .past),
+      omega (arith, cell-length 2 (a .args .count) 10 (omega arith) (omega (arith, a .pre .1)), p .put .ensures .past, n .put-number .ensures .past),
     )
 
 pub put-left-over-spec : {M : Type 1} → statement M

@@ -12,7 +12,7 @@ use borrow.Author.Needs.{needs}
 use borrow.Author.Count.{below-none}
 use Rattle.strings.proofs.Value.{Bytes}
 use Rattle.strings.proofs.Shape.{shaped}
-use Rattle.relative.proofs.Symbols.{withAbove, led, led-bytes, made, made-at, set-more, all-read}
+use Rattle.relative.proofs.Symbols.{withAbove, led, made, made-at, set-more, all-read}
 use Rattle.relative.proofs.coding.read_symbols.Statement.{statement}
 use Rattle.relative.proofs.coding.read_symbols.Tie as tie
 
@@ -23,15 +23,12 @@ Inv-loop s out₀ before₀ k₀ out before k =
 abbrev μ-loop : tie.MeasureT-loop
 μ-loop s out₀ before₀ k₀ out before k = 11 - k
 
--- where the loop is: the symbols, that they are bytes, and that the byte before is one
+-- where the loop is: the symbols, and that they are bytes
 abbrev S : tie.At-loop Inv-loop μ-loop → List ℕ
 S l = now (l .before .before .before .before .args .s)
 
 bytes-ok : (l : tie.At-loop Inv-loop μ-loop) → Bytes (S l)
 bytes-ok l = λ k. l .before .shared-slice-known2 .given k .fits
-
-before-lt : (l : tie.At-loop Inv-loop μ-loop) → l .loop .before < 256
-before-lt l = omega (arith, led-bytes (S l) (bytes-ok l) (l .loop .k))
 
 shared-slice-read-before : tie.Need-shared-slice-read-before Inv-loop μ-loop
 shared-slice-read-before c = omega (arith, shaped _ (c .before .before .before .pre .0) .0)
@@ -48,13 +45,13 @@ wide-requires : tie.Need-wide-requires Inv-loop μ-loop
 wide-requires c κs = search needs
 
 mul-both : tie.Need-mul-both Inv-loop μ-loop
-mul-both c = omega (arith, before-lt (c .before .before .before))
+mul-both c = search needs
 
 wide-requires-2 : tie.Need-wide-requires-2 Inv-loop μ-loop
 wide-requires-2 c κs = search needs
 
 add-both : tie.Need-add-both Inv-loop μ-loop
-add-both c = omega (arith, before-lt (c .before .before .before .before), c .before .before .shared-slice-known3 .given (c .before .before .before .before .loop .k))
+add-both c = search needs
 
 cast-out : tie.Need-cast-out Inv-loop μ-loop
 cast-out c = search needs
@@ -74,7 +71,7 @@ loop-again c =
     let k = l .loop .k in
     let s = S l in
     let i = l .loop .inv in
-    let both = ap₂ (λ (x y : ℕ). withAbove (x * 256 + y) % 256) (c .before .wide .ensures ∙ i .1 .0) (c .wide2 .ensures) in
+    let both = ap₂ (λ (x y : ℕ). withAbove (x * 256 + y) % 256) (c .before .wide .ensures .0 ∙ i .1 .0) (c .wide2 .ensures .0) in
     ((omega arith, (i .0 .1 .0, simp length-set (i .0 .1 .1))), (rw add-one, set-more (l .loop .out) (made s) k _ (omega arith) (both ∙ made-at s k (bytes-ok l) (omega arith)) (i .1 .1)))
 
 slice-read-out : tie.Need-slice-read-out Inv-loop μ-loop

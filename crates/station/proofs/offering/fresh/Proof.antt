@@ -1,9 +1,9 @@
--- `offering::fresh` meets its contract: 24 empty rows and an empty book. Assumes nothing.
+-- `offering::fresh` meets its contract: empty rows and an empty book. Assumes nothing.
 use mathlib.Core.Path.{ap₂}
 use lib.ListN.{replicate}
 use Rattle.book.specs.declared.Book.{Book}
 use Rattle.channel.specs.declared.Row.{Row}
-use Rattle.station.specs.Station.{freshStation}
+use Rattle.station.specs.Station.{channels, freshStation}
 use borrow.Author.Needs.{needs}
 use Rattle.station.proofs.offering.fresh.Statement.{statement}
 use Rattle.station.proofs.offering.fresh.Tie as tie
@@ -16,7 +16,7 @@ empty-book-requires c κs = search needs
 
 returns : tie.Need-returns
 unfolding freshStation
-returns c = ap₂ (λ (x : Row) (b : Book). record { rows = replicate 24 x; book = b }) (c .before .empty-row .ensures) (c .empty-book .ensures)
+returns c = ap₂ (λ (x : Row) (b : Book). record { rows = replicate channels x; book = b }) (c .before .empty-row .ensures) (c .empty-book .ensures)
 
 pub fresh-spec : {M : Type 1} → statement M
 fresh-spec = tie.close (tie.spec empty-row-requires empty-book-requires returns)

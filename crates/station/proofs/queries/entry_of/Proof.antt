@@ -3,6 +3,7 @@ use mathlib.Core.Path.{sym, _∙_}
 use native.Mathlib.Omega.{arith}
 use borrow.Author.Tests.{le-leb, lt-leb, eq-eqb, ne-eqb}
 use borrow.Author.Needs.{needs}
+use Rattle.book.specs.Book.{slots}
 use Rattle.station.proofs.Found.{one-entry, no-entry}
 use Rattle.station.proofs.queries.entry_of.Statement.{statement}
 use Rattle.station.proofs.queries.entry_of.Tie as tie
@@ -15,7 +16,7 @@ returns c =
 returns-2 : tie.Need-returns-2
 returns-2 c =
     let k = c .before .before .args .slot in
-    record { answer = rw (le-leb 1 k (omega arith), lt-leb k 24 (c .if2 .taken)); entry = λ e q. no-entry q }
+    record { answer = rw (le-leb 1 k (omega arith), lt-leb k slots (c .if2 .taken)); entry = λ e q. no-entry q }
 
 entry-in-requires : tie.Need-entry-in-requires
 entry-in-requires c κs = search needs
@@ -25,7 +26,7 @@ returns-3 c =
     let d = c .before .before in
     let k = d .before .before .before .before .args .slot in
     record {
-      answer = rw (le-leb 1 k (omega arith), le-leb k 24 (omega arith), ← d .entry-in .ensures, eq-eqb (d .entry-in .result .day) 0 (c .if3 .taken));
+      answer = rw (le-leb 1 k (omega arith), le-leb k slots (omega arith), ← d .entry-in .ensures, eq-eqb (d .entry-in .result .day) 0 (c .if3 .taken));
       entry = λ e q. no-entry q;
     }
 
@@ -34,7 +35,7 @@ returns-4 c =
     let d = c .before .before in
     let k = d .before .before .before .before .args .slot in
     record {
-      answer = rw (le-leb 1 k (omega arith), le-leb k 24 (omega arith), ← d .entry-in .ensures, ne-eqb (d .entry-in .result .day) 0 (c .if3 .left));
+      answer = rw (le-leb 1 k (omega arith), le-leb k slots (omega arith), ← d .entry-in .ensures, ne-eqb (d .entry-in .result .day) 0 (c .if3 .left));
       entry = λ e q. sym (one-entry q) ∙ d .entry-in .ensures;
     }
 

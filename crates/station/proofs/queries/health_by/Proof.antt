@@ -4,6 +4,7 @@ use native.Mathlib.Omega.{arith}
 use borrow.Author.Tests.{le-leb, lt-leb, eq-eqb, ne-eqb}
 use lib.ListN.{length}
 use borrow.Author.Needs.{needs}
+use Rattle.book.specs.Book.{slots}
 use Rattle.shows.proofs.Shows.{is-so, is-not}
 use Rattle.station.specs.Queries.{healthBy}
 use Rattle.station.proofs.Status.{status-is}
@@ -38,6 +39,9 @@ returns-2 c =
     let d = n .before .before .before .before in
     rw (is-so (d .before .has-record .ensures) (d .if1 .left), ← n .word-in .ensures, lt-leb 1 (n .word-in .result) (omega arith))
 
+cast-if3 : tie.Need-cast-if3
+cast-if3 c = search needs
+
 returns-3 : tie.Need-returns-3
 unfolding healthBy
 returns-3 c =
@@ -47,7 +51,7 @@ returns-3 c =
       is-so (d .before .has-record .ensures) (d .if1 .left),
       ← n .word-in .ensures,
       le-leb 1 (n .word-in .result) (omega arith),
-      lt-leb (n .word-in .result) 24 (c .if3 .taken),
+      lt-leb (n .word-in .result) slots (c .if3 .taken),
     )
 
 cast-entry-in : tie.Need-cast-entry-in
@@ -66,7 +70,7 @@ returns-4 c =
       is-so (d .before .has-record .ensures) (d .if1 .left),
       ← n .word-in .ensures,
       le-leb 1 (n .word-in .result) (omega arith),
-      le-leb (n .word-in .result) 24 (omega arith),
+      le-leb (n .word-in .result) slots (omega arith),
       ← e .entry-in .ensures,
       eq-eqb (e .entry-in .result .day) 0 (c .if4 .taken),
     )
@@ -102,7 +106,7 @@ returns-5 c =
       is-so (d .before .has-record .ensures) (d .if1 .left),
       ← n .word-in .ensures,
       le-leb 1 (n .word-in .result) (omega arith),
-      le-leb (n .word-in .result) 24 (omega arith),
+      le-leb (n .word-in .result) slots (omega arith),
       ← e .entry-in .ensures,
       ne-eqb (e .entry-in .result .day) 0 (f .if4 .left),
       status-is (e .entry-in .result) (search needs),
@@ -119,6 +123,7 @@ health-by-spec =
     part-word-in-end
     word-in-requires
     returns-2
+    cast-if3
     returns-3
     cast-entry-in
     entry-in-requires

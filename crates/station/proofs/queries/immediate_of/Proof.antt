@@ -3,13 +3,13 @@ use mathlib.Core.Path.{sym, _∙_}
 use borrow.Author.Tests.{lt-ltb, le-ltb}
 use borrow.Author.Needs.{needs}
 use Rattle.shows.proofs.Shows.{is-so, is-not}
-use Rattle.station.specs.Station.{noRow}
+use Rattle.station.specs.Station.{lastChannel, noRow}
 use Rattle.station.proofs.Found.{one-record, no-record}
 use Rattle.station.proofs.queries.immediate_of.Statement.{statement}
 use Rattle.station.proofs.queries.immediate_of.Tie as tie
 
 returns : tie.Need-returns
-returns c = record { answer = rw (lt-ltb 23 (c .before .args .channel) (c .if1 .taken)); words = λ w q. no-record q }
+returns c = record { answer = rw (lt-ltb lastChannel (c .before .args .channel) (c .if1 .taken)); words = λ w q. no-record q }
 
 mul-row : tie.Need-mul-row
 mul-row c = search needs
@@ -25,7 +25,7 @@ unfolding noRow
 returns-2 c =
     let d = c .before .before .before .before in
     record {
-      answer = rw (le-ltb 23 (d .before .args .channel) (d .if1 .left), is-not (c .before .has-record .ensures) (c .if2 .taken));
+      answer = rw (le-ltb lastChannel (d .before .args .channel) (d .if1 .left), is-not (c .before .has-record .ensures) (c .if2 .taken));
       words = λ w q. no-record q;
     }
 
@@ -38,7 +38,7 @@ returns-3 c =
     let f = c .before .before in
     let d = f .before .before .before .before in
     record {
-      answer = rw (le-ltb 23 (d .before .args .channel) (d .if1 .left), is-so (f .before .has-record .ensures) (f .if2 .left));
+      answer = rw (le-ltb lastChannel (d .before .args .channel) (d .if1 .left), is-so (f .before .has-record .ensures) (f .if2 .left));
       words = λ w q. sym (one-record q) ∙ c .immediate-words .ensures;
     }
 
