@@ -4,7 +4,9 @@ BEGIN {
     shown = 30
     name[1] = "CHANNEL"; why[1] = "channel above 23"
     name[2] = "SHAPE"; why[2] = "padding not 0"
-    name[3] = "DAMAGED"; why[3] = "the check cannot repair it"
+    name[31] = "DAMAGED, no sum set but C"; why[31] = "bit 8 wrong, or more bits that cancel in the sums"
+    name[32] = "DAMAGED, an even number of wrong bits"; why[32] = "almost always two"
+    name[33] = "DAMAGED, a place above 85"; why[33] = "at least three wrong bits"
     name[4] = "IDLE"; why[4] = "bit 85 is 1"
     name[5] = "NUMBER"; why[5] = "m = 0"
     name[6] = "EARLY"; why[6] = "epoch below m-1"
@@ -31,6 +33,7 @@ END {
     printf "\nOf all %d lines:\n", NR
     printf "%7d taken, clean\n", clean
     printf "%7d taken, one bit repaired\n", repaired
-    for (n = 1; n <= 9; n++)
-        if (n in refused) printf "%7d refused, %d %s: %s\n", refused[n], n, name[n], why[n]
+    split("1 2 31 32 33 4 5 6 7 8 9", order)
+    for (k = 1; k in order; k++)
+        if ((n = order[k]) in refused) printf "%7d refused, %d %s: %s\n", refused[n], n, name[n], why[n]
 }

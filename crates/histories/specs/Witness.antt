@@ -203,7 +203,7 @@ pub record Witness : Type 0 where
   pub six-last-5 : slotOf sixLast 5 ≡ record { day = 8766; even = 92233720368547758338; odd = 55340232221128654854 }
   -- ---- "a refused string changes nothing but its channel's tallies of strings offered and refused"
   pub tallies-before : rowAt entry 3 .tallies ≡ record { offered = 3; clean = 3; repaired = 0; refused = 0 }
-  pub refused-said : answerOf (stationTests entry 3 107 damaged) (toldIn entry 3 107 damaged) ≡ 3 ∷ []
+  pub refused-said : answerOf (stationTests entry 3 107 damaged) (toldIn entry 3 107 damaged) ≡ 32 ∷ []
   pub refused-leaves : stationOf (Offer 3 107 damaged ∷ entryCalls) ≡ talliesMoved entry 3 (record { offered = 4; clean = 3; repaired = 0; refused = 1 })
   -- "one already held changes only tallies"
   pub again-said : answerOf (stationTests entry 3 106 seven) (toldIn entry 3 106 seven) ≡ 0 ∷ 7 ∷ 0 ∷ 0 ∷ 0 ∷ []

@@ -10,6 +10,7 @@ use lib.ListN.{getD, take}
 use Rattle.strings.specs.Pick.{pick}
 use Rattle.strings.specs.declared.Refusal.{Refusal}
 use Rattle.strings.specs.declared.Refusal.the-variants.{Channel, Shape, Damaged, Idle, Number, Early, Stale, OffBeat, Conflict, Range, Place, Room, Nothing, Slot}
+use Rattle.strings.specs.declared.hamming.Damage.the-variants.{Unplaced, Even, Outside}
 use Rattle.strings.specs.declared.Verdict.{Verdict}
 use Rattle.strings.specs.declared.Verdict.the-variants.{Clean, Repaired}
 use Rattle.strings.specs.declared.hamming.Ruling.{Ruling}
@@ -124,7 +125,9 @@ told l = pick (eqb (getD l 0 0) 0) l (pick (eqb (getD l 0 0) 10) (take 2 l) (tak
 refusal-read : (q : Refusal) → told (five (refusalPaper q)) ≡ refusalPaper q
 refusal-read Channel = refl
 refusal-read Shape = refl
-refusal-read Damaged = refl
+refusal-read (Damaged Unplaced) = refl
+refusal-read (Damaged Even) = refl
+refusal-read (Damaged Outside) = refl
 refusal-read Idle = refl
 refusal-read Number = refl
 refusal-read Early = refl

@@ -13,6 +13,7 @@ use borrow.Author.Tests.{eq-eqb, eqb-true}
 use Rattle.strings.specs.Pick.{pick, isOneOf}
 use Rattle.strings.specs.declared.Refusal.{Refusal}
 use Rattle.strings.specs.declared.Refusal.the-variants.{Channel, Shape, Damaged, Idle, Number, Early, Stale, OffBeat, Conflict, Range, Place, Room, Nothing, Slot}
+use Rattle.strings.specs.declared.hamming.Damage.the-variants.{Unplaced, Even, Outside}
 use Rattle.strings.specs.declared.Verdict.{Verdict}
 use Rattle.strings.specs.declared.Verdict.the-variants.{Clean, Repaired}
 use Rattle.strings.specs.Number.{valueOf}
@@ -36,11 +37,13 @@ use Rattle.seen.specs.declared.seeing.Seen.{Seen}
 use Rattle.lines.specs.Line.{channelIn, epochIn, symbolsIn, beforeVerdict, beforeNumber, repairedFor, mFor, lineFor, Lists}
 use Rattle.seen.specs.Seen.{bitIn, seen, isHeard, seenIn, comesBeforeVerdict, seenBy}
 
--- the refusals before the verdict are the paper's 1..4
+-- the refusals before the verdict are the paper's 1..4, with 31 to 33 for 3
 comes-before : (q : Refusal) → comesBeforeVerdict q ≡ isOneOf beforeVerdict (getD (refusalPaper q) 0 0)
 comes-before Channel = refl
 comes-before Shape = refl
-comes-before Damaged = refl
+comes-before (Damaged Unplaced) = refl
+comes-before (Damaged Even) = refl
+comes-before (Damaged Outside) = refl
 comes-before Idle = refl
 comes-before Number = refl
 comes-before Early = refl

@@ -29,16 +29,16 @@ symbolsIn rec = take 11 (drop 5 rec)
 abbrev pub numberFor : Station → List ℕ → ℕ
 numberFor st rec = firstOf (stationTests st (channelIn rec) (epochIn rec) (symbolsIn rec))
 
--- ---- "repaired bit (0 if none or number 1..4)"
+-- ---- "repaired bit (0 if none or number 1..4)", and "the listing's zeros treat each as 3" of 31 to 33
 abbrev pub beforeVerdict : List ℕ
-beforeVerdict = 1 ∷ 2 ∷ 3 ∷ 4 ∷ []
+beforeVerdict = 1 ∷ 2 ∷ 31 ∷ 32 ∷ 33 ∷ 4 ∷ []
 
 abbrev pub repairedFor : ℕ → List ℕ → ℕ
 repairedFor number s = pick (isOneOf beforeVerdict number) 0 (bitIn (verdictIn s))
 
 -- ---- "m (0 for 1..5)", of the string as the check leaves it
 abbrev pub beforeNumber : List ℕ
-beforeNumber = 1 ∷ 2 ∷ 3 ∷ 4 ∷ 5 ∷ []
+beforeNumber = 1 ∷ 2 ∷ 31 ∷ 32 ∷ 33 ∷ 4 ∷ 5 ∷ []
 
 abbrev pub mFor : ℕ → List ℕ → ℕ
 mFor number s = pick (isOneOf beforeNumber number) 0 (numberIn (wholeOf s))

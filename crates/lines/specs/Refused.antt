@@ -1,5 +1,5 @@
--- The lines of strings that are refused by each number from 3 to 9 (the paper, the end of "Known strings and edges": "repaired bit (0 if none or number
--- 1..4), m (0 for 1..5)"), computed from the definitions: one bit of each string is wrong, of the one by 3 two are.
+-- The lines of strings that are refused by each number from 31 to 33 and from 4 to 9 (the paper, the end of "Known strings and edges": "repaired bit (0 if none or number
+-- 1..4), m (0 for 1..5)"), computed from the definitions: one bit of each string is wrong, of the damaged ones bit 8, two and three.
 -- Assumes nothing.
 use Prim.Native.Nat.{ℕ, _+_, _^_}
 use mathlib.Core.List.{List, _∷_, _++_}
@@ -11,7 +11,7 @@ use Rattle.relative.specs.Relative.{readRelative, writeRelative}
 use Rattle.relative.specs.Known.{B}
 use Rattle.channel.specs.Row.{isPresent, holdsFrame, emptyRow, newFrame, stored, heldWith, counted}
 use Rattle.channel.specs.Offers.{takenRow}
-use Rattle.seen.specs.Known.{sent, zeroRepaired, oneRepaired, oneDamaged, oneIdle}
+use Rattle.seen.specs.Known.{sent, zeroRepaired, oneRepaired, oneUnplaced, oneEven, oneOutside, oneIdle}
 use Rattle.station.specs.declared.Station.{Station}
 use Rattle.station.specs.Station.{freshStation, stationAfter}
 use Rattle.lines.specs.declared.Line.{Line}
@@ -36,8 +36,10 @@ unfoldable pub heard : Station
 heard = stationAfter freshStation 0 100 B
 
 pub record Refused : Type 0 where
-  -- DAMAGED and IDLE tell neither, though bit 85 of the idle one was repaired
-  pub damaged : lineFor freshStation (recordOf 100 oneDamaged) ≡ line 100 3 0 0
+  -- DAMAGED, by each of its causes, and IDLE tell neither, though bit 85 of the idle one was repaired
+  pub unplaced : lineFor freshStation (recordOf 100 oneUnplaced) ≡ line 100 31 0 0
+  pub even : lineFor freshStation (recordOf 100 oneEven) ≡ line 100 32 0 0
+  pub outside : lineFor freshStation (recordOf 100 oneOutside) ≡ line 100 33 0 0
   pub idle : lineFor freshStation (recordOf 100 oneIdle) ≡ line 100 4 0 0
   -- NUMBER tells the repaired bit, and m 0
   pub number : lineFor freshStation (recordOf 100 zeroRepaired) ≡ line 100 5 9 0
@@ -49,4 +51,4 @@ pub record Refused : Type 0 where
 
 pub refused : Refused
 unfolding heard soundTests numberOf paddingOf misshapen wordOf flip stringBytes readRelative writeRelative position sumC sumAll syndrome sumsSet highest placed judge ruling mended sumsMade encode isPresent holdsFrame emptyRow newFrame stored heldWith counted takenRow freshStation stationAfter lineFor
-refused = record { damaged = refl; idle = refl; number = refl; early = refl; stale = refl; off-beat = refl; conflict = refl }
+refused = record { unplaced = refl; even = refl; outside = refl; idle = refl; number = refl; early = refl; stale = refl; off-beat = refl; conflict = refl }

@@ -2,12 +2,13 @@
 -- 1..5)"), computed from the definitions.
 -- Assumes nothing.
 use Prim.Native.Nat.{ℕ, _+_, _^_}
-use mathlib.Core.List.{List}
+use mathlib.Core.List.{List, [], _∷_}
 use mathlib.Core.Path.{_≡_, refl}
-use lib.Dec.{leb}
 use lib.ListN.{getD}
 use Rattle.strings.specs.declared.Refusal.{Refusal}
 use Rattle.strings.specs.declared.Refusal.the-variants.{Channel, Shape, Damaged, Idle, Number, Early, Stale, OffBeat, Conflict, Range, Place, Room, Nothing, Slot}
+use Rattle.strings.specs.declared.hamming.Damage.the-variants.{Unplaced, Even, Outside}
+use Rattle.strings.specs.Pick.{isOneOf}
 use Rattle.strings.specs.Number.{numberOf, paddingOf, misshapen, wordOf, flip, stringBytes}
 use Rattle.strings.specs.Hamming.{position, sumC, sumAll, syndrome, sumsSet, highest, placed, judge, ruling, mended, sumsMade, encode}
 use Rattle.strings.specs.Numbers.{refusalPaper}
@@ -20,15 +21,21 @@ use Rattle.seen.specs.Seen.{seen, seenIn, comesBeforeVerdict, seenBy}
 abbrev pub sent : ℕ → List ℕ
 sent n = stringBytes (writeRelative n)
 
--- strings without data, encoded: string 0, and string 1, with bit 9 wrong; string 1 with bits 9 and 10 wrong
+-- strings without data, encoded: string 0, and string 1, with bit 9 wrong; string 1 with bit 8 wrong, with bits 9 and 10, and with bits 84, 3 and 8
 abbrev pub zeroRepaired : List ℕ
 zeroRepaired = sent (flip (encode 0) 9)
 
 abbrev pub oneRepaired : List ℕ
 oneRepaired = sent (flip (encode (2 ^ 80)) 9)
 
-abbrev pub oneDamaged : List ℕ
-oneDamaged = sent (flip (flip (encode (2 ^ 80)) 9) 10)
+abbrev pub oneUnplaced : List ℕ
+oneUnplaced = sent (flip (encode (2 ^ 80)) 8)
+
+abbrev pub oneEven : List ℕ
+oneEven = sent (flip (flip (encode (2 ^ 80)) 9) 10)
+
+abbrev pub oneOutside : List ℕ
+oneOutside = sent (flip (flip (flip (encode (2 ^ 80)) 84) 3) 8)
 
 -- string 1 with bit 85 set: it is read as 0, and repaired to 1
 abbrev pub oneIdle : List ℕ
@@ -38,16 +45,20 @@ pub record Known : Type 0 where
   -- the repaired bit is told after NUMBER, and there m is 0; after STALE both are
   pub number : seenBy (Refused Number) zeroRepaired ≡ seen 9 0
   pub stale : seenBy (Refused Stale) oneRepaired ≡ seen 9 1
-  -- after DAMAGED and IDLE neither is
-  pub damaged : seenBy (Refused Damaged) oneDamaged ≡ seen 0 0
+  -- after DAMAGED, by each of its causes, and after IDLE neither is
+  pub unplaced : seenBy (Refused (Damaged Unplaced)) oneUnplaced ≡ seen 0 0
+  pub even : seenBy (Refused (Damaged Even)) oneEven ≡ seen 0 0
+  pub outside : seenBy (Refused (Damaged Outside)) oneOutside ≡ seen 0 0
   pub idle : seenBy (Refused Idle) oneIdle ≡ seen 0 0
-  -- "number 1..4"
-  pub before-verdict : (q : Refusal) → comesBeforeVerdict q ≡ leb (getD (refusalPaper q) 0 0) 4
+  -- "number 1..4", where "the listing's zeros treat each as 3" of 31 to 33
+  pub before-verdict : (q : Refusal) → comesBeforeVerdict q ≡ isOneOf (1 ∷ 2 ∷ 31 ∷ 32 ∷ 33 ∷ 4 ∷ []) (getD (refusalPaper q) 0 0)
 
-by-number : (q : Refusal) → comesBeforeVerdict q ≡ leb (getD (refusalPaper q) 0 0) 4
+by-number : (q : Refusal) → comesBeforeVerdict q ≡ isOneOf (1 ∷ 2 ∷ 31 ∷ 32 ∷ 33 ∷ 4 ∷ []) (getD (refusalPaper q) 0 0)
 by-number Channel = refl
 by-number Shape = refl
-by-number Damaged = refl
+by-number (Damaged Unplaced) = refl
+by-number (Damaged Even) = refl
+by-number (Damaged Outside) = refl
 by-number Idle = refl
 by-number Number = refl
 by-number Early = refl
@@ -62,4 +73,4 @@ by-number Slot = refl
 
 pub known : Known
 unfolding soundTests numberOf paddingOf misshapen wordOf flip stringBytes position sumC sumAll syndrome sumsSet highest placed judge ruling mended sumsMade encode readRelative writeRelative seenIn seenBy
-known = record { number = refl; stale = refl; damaged = refl; idle = refl; before-verdict = by-number }
+known = record { number = refl; stale = refl; unplaced = refl; even = refl; outside = refl; idle = refl; before-verdict = by-number }

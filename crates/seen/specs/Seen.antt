@@ -24,7 +24,7 @@ bitIn (Repaired i) = i
 abbrev pub seen : ℕ → ℕ → Seen
 seen bit m = record { repaired = bit; m = m }
 
--- 2, 3 and 4 let the string pass
+-- 2 to 4 let the string pass
 abbrev pub isHeard : List ℕ → Bool
 isHeard s = eqb (firstOf (hearTests s)) 0
 
@@ -32,11 +32,11 @@ isHeard s = eqb (firstOf (hearTests s)) 0
 unfoldable pub seenIn : List ℕ → Seen
 seenIn s = pick (isHeard s) (seen (bitIn (verdictIn s)) (numberIn (wholeOf s))) (seen 0 0)
 
--- 1 to 4, by cases
+-- 1 to 4, by cases; 31 to 33 stand in 3's position
 abbrev pub comesBeforeVerdict : Refusal → Bool
 comesBeforeVerdict Channel = true
 comesBeforeVerdict Shape = true
-comesBeforeVerdict Damaged = true
+comesBeforeVerdict (Damaged d) = true
 comesBeforeVerdict Idle = true
 comesBeforeVerdict Number = false
 comesBeforeVerdict Early = false

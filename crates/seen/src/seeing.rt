@@ -49,14 +49,14 @@ fn seen_after(why: Refusal, s: &[u8]) -> Seen
     see(s)
 }
 
-// Whether a refusal comes before the check has a verdict: 1 to 4.
+// Whether a refusal comes before the check has a verdict: 1 to 4, 31 to 33 among them.
 fn comes_before_verdict(why: Refusal) -> bool
     ensures { λ r. ⌜ r ≡ comesBeforeVerdict why ⌝ }
 {
     match why {
         Refusal::Channel => true,
         Refusal::Shape => true,
-        Refusal::Damaged => true,
+        Refusal::Damaged(_) => true,
         Refusal::Idle => true,
         Refusal::Number => false,
         Refusal::Early => false,

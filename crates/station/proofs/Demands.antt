@@ -16,6 +16,7 @@ use Rattle.words.specs.Immediate.{stringAt}
 use Rattle.book.specs.Entry.{meaning}
 use Rattle.book.specs.Book.{slots, inSlot}
 use Rattle.strings.proofs.Below.{both}
+use Rattle.strings.proofs.DamagedExactly.{damaged-exactly}
 use Rattle.book.proofs.Order.{below-same}
 use Rattle.tallies.specs.declared.Tallies.{Tallies}
 use Rattle.channel.specs.Frame.{isHere}
@@ -235,6 +236,7 @@ demands =
       strings-answer = strings-answer;
       station-numbers = station-numbers;
       string-numbers = string-numbers;
+      damaged-exactly = damaged-exactly;
       refused = refusal-leaves;
       no-channel = channel-leaves;
       no-output-byte = no-output-byte;

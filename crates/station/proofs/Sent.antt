@@ -13,10 +13,12 @@ use lib.ListN.{length, set}
 use lib.Seq.{getD-set-same, getD-set-other}
 use Rattle.strings.specs.declared.Verdict.{Verdict}
 use Rattle.strings.specs.declared.Verdict.the-variants.{Clean, Repaired}
-use Rattle.strings.specs.declared.hamming.Ruling.the-variants.{Sound}
+use Rattle.strings.specs.declared.hamming.Ruling.the-variants.{Sound, Damaged}
+use Rattle.strings.specs.declared.hamming.Damage.{Damage}
+use Rattle.strings.specs.declared.hamming.Damage.the-variants.{Unplaced, Even, Outside}
 use Rattle.strings.specs.Number.{bitOf, misshapen, flip}
 use Rattle.strings.specs.Hamming.{ruling, isDamaged}
-use Rattle.strings.specs.Numbers.{verdictPaper, firstOf, placeOf}
+use Rattle.strings.specs.Numbers.{damageNumber, verdictPaper, firstOf, placeOf, saidBy}
 use Rattle.strings.specs.Calls.{isIdle}
 use Rattle.strings.proofs.Digits.{flip-lt, flip-undo}
 use Rattle.strings.proofs.Value.{string-number}
@@ -102,10 +104,16 @@ is-served : (c : ℕ) → c ≤ lastChannel → isNoChannel c ≡ false
 is-served c l = le-ltb lastChannel c l
 
 -- ---- DAMAGED, whatever the channel holds
-damaged : (st : Station) (c epoch k : ℕ) (s : List ℕ) (r : Stepped) → c ≤ lastChannel → k < 2 ^ 84 → isDamaged (ruling k) ≡ true → SentAs k s
-    → OffersTo st c epoch s r → answerPaper (r .answer) ≡ 3 ∷ []
-damaged st c epoch k s r l h d e o =
-    o .answer ∙ rw (is-served c l, sent-shaped k s h e) (damaged-says (plainOf s) (ap (λ (x : ℕ). isDamaged (ruling x)) (sent-plain k s h e) ∙ d) (placeTests (heldAt st c) epoch (wholeOf s)) (toldIn st c epoch s))
+damaged : (st : Station) (c epoch k : ℕ) (s : List ℕ) (r : Stepped) → c ≤ lastChannel → k < 2 ^ 84 → (d : Damage) → ruling k ≡ Damaged d → SentAs k s
+    → OffersTo st c epoch s r → answerPaper (r .answer) ≡ damageNumber d ∷ []
+damaged st c epoch k s r l h d q e o =
+    let p = damaged-says (plainOf s) d (ap ruling (sent-plain k s h e) ∙ q) (placeTests (heldAt st c) epoch (wholeOf s)) in
+    o .answer ∙ rw (is-served c l, sent-shaped k s h e, p .0, p .1) (alone d)
+  where
+    alone : (d : Damage) → saidBy (damageNumber d) [] (toldIn st c epoch s) ≡ damageNumber d ∷ []
+    alone Unplaced = refl
+    alone Even = refl
+    alone Outside = refl
 
 -- ---- bytes that the check leaves as n with the verdict v, where their channel awaits that string
 module _ (st : Station) (c epoch n : ℕ) (a : Awaits st c epoch n) (idle : bitOf n 85 ≡ 0) (s : List ℕ) (v : Verdict) (w : LeftAs s n v) where
@@ -200,8 +208,8 @@ heard-as-sent st c epoch n g =
       left = same-left st c epoch n g;
       clean-told = λ s r t long a e o f. told st c epoch n a (g .idle) s Clean (left-clean n g s e) r t o long f;
       repaired-told = λ i s r t long a b ne e o f. told st c epoch n a (g .idle) s (Repaired i) (left-repaired n g i b s ne e) r t o long f;
-      bit-8 = λ s r l e o. damaged st c epoch (flip n 8) s r l (flip-low n g 8 (lit≤ tt, lit≤ tt)) (bit-8-ruling n (g .encoded)) e o;
+      bit-8 = λ s r l e o. damaged st c epoch (flip n 8) s r l (flip-low n g 8 (lit≤ tt, lit≤ tt)) Unplaced (bit-8-ruling n (g .encoded)) e o;
       two-flips = λ i j s r l b d ne e o.
           damaged st c epoch (flip (flip n i) j) s r l (flip-lt 84 (flip n i) j (flip-low n g i b) (d .0) (d .1))
-          (two-flips-ruling n i j (g .encoded) (b .0) (omega (arith, b .1)) (d .0) (omega (arith, d .1)) ne) e o;
+          Even (two-flips-ruling n i j (g .encoded) (b .0) (omega (arith, b .1)) (d .0) (omega (arith, d .1)) ne) e o;
     }

@@ -8,6 +8,7 @@ use mathlib.Core.List.{List, _∷_, _++_}
 use mathlib.Core.Path.{_≡_}
 use lib.ListN.{length}
 use Rattle.strings.specs.Hamming.{Encoded}
+use Rattle.strings.specs.Damage.{DamagedExactly}
 use Rattle.book.specs.Book.{slots}
 use Rattle.channel.specs.Offers.{isTaken}
 use Rattle.channel.specs.Relock.{Heard, FirstOf15}
@@ -34,6 +35,8 @@ pub record AllDemands : Type 0 where
   -- "Bad input is refused with the number in our paper;"
   pub station-numbers : (st : Station) → StationNumbers st
   pub string-numbers : StringNumbers
+  -- where three numbers stand for DAMAGED: "What is refused stays as it was"
+  pub damaged-exactly : (n : ℕ) → DamagedExactly n
   -- "a refused string changes nothing but its channel's tallies of strings offered and refused,"
   pub refused : (st : Station) (c epoch : ℕ) (s : List ℕ) (r : Stepped) → WellMade st → isNoChannel c ≡ false → OffersTo st c epoch s r
       → isTaken (r .answer) ≡ false → RefusalLeaves st c (r .station)

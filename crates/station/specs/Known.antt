@@ -14,7 +14,7 @@ use Rattle.relative.specs.Relative.{readRelative, writeRelative, inverse}
 use Rattle.strings.specs.Hamming.{position, sumC, sumAll, syndrome, sumsSet, highest, placed, judge, ruling, mended, encode}
 use Rattle.strings.specs.Numbers.{firstOf, answerOf}
 use Rattle.strings.specs.Calls.{soundTests}
-use Rattle.strings.specs.Known.{A, zeros, a, known as strings-known}
+use Rattle.strings.specs.Known.{A, zeros, a, said, known as strings-known}
 use Rattle.relative.specs.Known.{B, inverseB, known as relative-known}
 use Rattle.records.specs.declared.kinds.Kind.{Kind}
 use Rattle.records.specs.declared.kinds.Kind.the-variants.{One, Odd}
@@ -44,13 +44,16 @@ pub record KnownStrings : Type 0 where
   pub flip-85 : ruling (flip a 85) ≡ Sound (Repaired 85)
   -- "Bit 5: repaired 5."
   pub flip-5 : ruling (flip a 5) ≡ Sound (Repaired 5)
-  -- "Bit 8: DAMAGED."
+  -- "Bit 8: DAMAGED.", which is 31
   pub flip-8 : ruling (flip a 8) ≡ Damaged Unplaced
-  -- "Bits 9, 10: DAMAGED."
+  pub flip-8-said : said (flip a 8) ≡ 31 ∷ []
+  -- "Bits 9, 10: DAMAGED.": 32
   pub flip-9-10 : ruling (flip (flip a 9) 10) ≡ Damaged Even
-  -- "Bits 85, 9, 8: S = 87, DAMAGED."
+  pub flip-9-10-said : said (flip (flip a 9) 10) ≡ 32 ∷ []
+  -- "Bits 85, 9, 8: S = 87, DAMAGED.": 33
   pub flip-85-9-8-S : syndrome (flip (flip (flip a 85) 9) 8) ≡ 87
   pub flip-85-9-8 : ruling (flip (flip (flip a 85) 9) 8) ≡ Damaged Outside
+  pub flip-85-9-8-said : said (flip (flip (flip a 85) 9) 8) ≡ 33 ∷ []
   -- "Eleven zero bytes: clean, then NUMBER": by the check, then by the reader whatever kind is asked, and on any channel of a fresh station at any epoch
   pub zeros-clean : ruling (numberOf zeros) ≡ Sound Clean
   pub zeros-number : (k : Kind) → firstOf (readTests zeros k) ≡ 5
@@ -71,7 +74,7 @@ pub record KnownStrings : Type 0 where
 
 -- the two rows that no lower table has
 B-inverted-so : stringBytes (inverse (numberOf B)) ≡ inverseB
-unfolding soundTests numberOf stringBytes inverse
+unfolding numberOf stringBytes inverse
 B-inverted-so = refl
 
 zeros-offered-so : (c epoch : ℕ) → isNoChannel c ≡ false → answerOf (stationTests freshStation c epoch zeros) (toldIn freshStation c epoch zeros) ≡ 5 ∷ []
@@ -94,9 +97,12 @@ known-strings =
       flip-85 = strings-known .flip-85;
       flip-5 = strings-known .flip-5;
       flip-8 = strings-known .flip-8;
+      flip-8-said = strings-known .flip-8-said;
       flip-9-10 = strings-known .flip-9-10;
+      flip-9-10-said = strings-known .flip-9-10-said;
       flip-85-9-8-S = strings-known .flip-85-9-8-S;
       flip-85-9-8 = strings-known .flip-85-9-8;
+      flip-85-9-8-said = strings-known .flip-85-9-8-said;
       zeros-clean = strings-known .zeros-clean;
       zeros-number = words-known .zeros-number;
       zeros-offered = zeros-offered-so;

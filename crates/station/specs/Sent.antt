@@ -85,10 +85,11 @@ pub record HeardAsSent (st : Station) (c epoch n : ℕ) : Type 0 where
   pub repaired-told : (i : ℕ) (s : List ℕ) (r : Stepped) (t : TalliesFound) → length (st .rows) ≡ channels → Awaits st c epoch n → IsBit i → (i ≡ 8 → ⊥)
       → SentAs (flip n i) s → OffersTo st c epoch s r → FindsTallies (r .station) c t
       → talliesPaper t ≡ 0 ∷ oneMore (talliesAt st c .offered) ∷ talliesAt st c .clean ∷ oneMore (talliesAt st c .repaired) ∷ talliesAt st c .refused ∷ []
-  -- "a flip of bit 8 alone is refused", and "every two flips are DAMAGED": whatever the channel holds, at every epoch
-  pub bit-8 : (s : List ℕ) (r : Stepped) → c ≤ lastChannel → SentAs (flip n 8) s → OffersTo st c epoch s r → answerPaper (r .answer) ≡ 3 ∷ []
-  pub two-flips : (i j : ℕ) (s : List ℕ) (r : Stepped) → c ≤ lastChannel → IsBit i → IsBit j → (i ≡ j → ⊥) → SentAs (flip (flip n i) j) s
-      → OffersTo st c epoch s r → answerPaper (r .answer) ≡ 3 ∷ []
+  -- "a flip of bit 8 alone is refused": 31, "S = 0, C = 1"; and "every two flips are DAMAGED": 32, "S not 0, C = 0". Whatever the channel holds, at
+  -- every epoch
+  pub bit-8 : (s : List ℕ) (r : Stepped) → c ≤ lastChannel → SentAs (flip n 8) s → OffersTo st c epoch s r → answerPaper (r .answer) ≡ 31 ∷ []
+  pub two-flips : (i j : ℕ) (s : List ℕ) (r : Stepped) → c ≤ lastChannel → IsBit i → IsBit j → (i ≡ j → ⊥) → SentAs (flip (flip n i) j) s → OffersTo st c epoch s r
+      → answerPaper (r .answer) ≡ 32 ∷ []
 
 -- ---- such strings there are: the paper's A, on the last channel of a fresh station at epoch 0
 pub record SentWitness : Type 0 where

@@ -2,11 +2,11 @@
 -- Each is proved in the crate of its call and gathered here.
 -- Assumes nothing.
 use Prim.Native.Nat.{ℕ, _/_, _^_, _≤_, _<_}
-use mathlib.Core.List.{List}
+use mathlib.Core.List.{List, [], _∷_}
 use mathlib.Core.Logic.{_⊎_}
 use mathlib.Core.Path.{_≡_}
 use lib.ListN.{length, getD}
-use Rattle.strings.specs.declared.Refusal.the-variants.{Damaged as DAMAGED, Idle}
+use Rattle.strings.specs.declared.Refusal.the-variants.{Idle}
 use Rattle.strings.specs.declared.Verdict.{Verdict}
 use Rattle.strings.specs.declared.Verdict.the-variants.{Clean, Repaired}
 use Rattle.strings.specs.declared.Checked.{Checked}
@@ -15,7 +15,7 @@ use Rattle.strings.specs.declared.Written.{Written}
 use Rattle.strings.specs.declared.Written.the-variants.{Done}
 use Rattle.strings.specs.Number.{bitOf, flip, stringBytes}
 use Rattle.strings.specs.Hamming.{Encoded, encode}
-use Rattle.strings.specs.Calls.{Checks}
+use Rattle.strings.specs.Calls.{checkedPaper, Checks}
 use Rattle.relative.specs.Relative.{inverse}
 use Rattle.relative.specs.Calls.{ReadsRelative, WritesRelative}
 
@@ -26,11 +26,11 @@ pub record Checking (n : ℕ) (out : List ℕ) : Type 0 where
   -- "one flip is repaired unless it is bit 8": its number is told and the string is written as it was sent
   pub one-flip : (i : ℕ) → 1 ≤ i → i ≤ 85 → (i ≡ 8 → ⊥) → bitOf n 85 ≡ 0 → (r : Checked) (out′ : List ℕ) → Checks (stringBytes (flip n i)) out r out′
       → (r ≡ Taken (Repaired i)) × (out′ ≡ stringBytes n)
-  -- "a flip of bit 8 alone is refused"
-  pub bit-8 : (r : Checked) (out′ : List ℕ) → Checks (stringBytes (flip n 8)) out r out′ → (r ≡ Refused DAMAGED) × (out′ ≡ out)
-  -- "every two flips are DAMAGED"
+  -- "a flip of bit 8 alone is refused": in the paper's number, "31 (S = 0, C = 1)", and nothing is written
+  pub bit-8 : (r : Checked) (out′ : List ℕ) → Checks (stringBytes (flip n 8)) out r out′ → (checkedPaper r ≡ 31 ∷ []) × (out′ ≡ out)
+  -- "every two flips are DAMAGED": "32 (S not 0, C = 0)"
   pub two-flips : (i j : ℕ) → 1 ≤ i → i ≤ 85 → 1 ≤ j → j ≤ 85 → (i ≡ j → ⊥) → (r : Checked) (out′ : List ℕ)
-      → Checks (stringBytes (flip (flip n i) j)) out r out′ → (r ≡ Refused DAMAGED) × (out′ ≡ out)
+      → Checks (stringBytes (flip (flip n i) j)) out r out′ → (checkedPaper r ≡ 32 ∷ []) × (out′ ≡ out)
   -- "After a repair bit 85 must be 0, else IDLE"
   pub idle : bitOf n 85 ≡ 1 → (r : Checked) (out′ : List ℕ) → Checks (stringBytes n) out r out′ → (r ≡ Refused Idle) × (out′ ≡ out)
   pub one-flip-idle : (i : ℕ) → 1 ≤ i → i ≤ 85 → (i ≡ 8 → ⊥) → bitOf n 85 ≡ 1 → (r : Checked) (out′ : List ℕ) → Checks (stringBytes (flip n i)) out r out′

@@ -9,6 +9,7 @@ use lib.Dec.{T, eqb, eqb-refl, T-not}
 use lib.ListN.{length, getD, drop}
 use Rattle.strings.specs.declared.Refusal.{Refusal}
 use Rattle.strings.specs.declared.Refusal.the-variants.{Channel, Shape, Damaged, Idle, Number, Early, Stale, OffBeat, Conflict, Range, Place, Room, Nothing, Slot}
+use Rattle.strings.specs.declared.hamming.Damage.the-variants.{Unplaced, Even, Outside}
 use Rattle.strings.specs.declared.Verdict.{Verdict}
 use Rattle.strings.specs.declared.Verdict.the-variants.{Clean, Repaired}
 use Rattle.strings.specs.declared.Written.{Written}
@@ -26,6 +27,11 @@ module _ {told made out : List ℕ} where
   pub refuses : (k : ℕ) {p : List ℕ} {b : Bool} {ts : List Test} → b ≡ true
       → Answers (record { number = suc k; place = p; fits = b } ∷ ts) told made out (suc k ∷ p) out
   refuses k e = record { answer = rw e; output = rw e }
+
+  -- the tests give this number and no place
+  pub refuses-by : (ts : List Test) (n : ℕ) → (n ≡ 0 → ⊥) → firstOf ts ≡ n → placeOf ts ≡ [] → Answers ts told made out (n ∷ []) out
+  refuses-by ts zero z e f = absurd (z refl)
+  refuses-by ts (suc k) z e f = record { answer = rw (e, f); output = rw e }
 
   -- the first test does not fit: the answer is that of the others
   pub goes-on : (k : ℕ) {p : List ℕ} {b : Bool} {ts : List Test} {said out′ : List ℕ} → b ≡ false → Answers ts told made out said out′
@@ -45,15 +51,18 @@ module _ {told made out : List ℕ} where
 abbrev pub refusalOf : List ℕ → Refusal
 refusalOf l =
     let n = getD l 0 0 in
-    pick (eqb n 1) Channel (pick (eqb n 2) Shape (pick (eqb n 3) Damaged (pick (eqb n 4) Idle (pick (eqb n 5) Number (pick (eqb n 6) Early
-    (pick (eqb n 7) Stale (pick (eqb n 8) OffBeat (pick (eqb n 9) Conflict (pick (eqb n 10) (Range (getD l 1 0)) (pick (eqb n 11) Place
-    (pick (eqb n 12) Room (pick (eqb n 13) Nothing Slot))))))))))))
+    pick (eqb n 1) Channel (pick (eqb n 2) Shape
+    (pick (eqb n 31) (Damaged Unplaced) (pick (eqb n 32) (Damaged Even) (pick (eqb n 33) (Damaged Outside)
+    (pick (eqb n 4) Idle (pick (eqb n 5) Number (pick (eqb n 6) Early (pick (eqb n 7) Stale (pick (eqb n 8) OffBeat (pick (eqb n 9) Conflict
+    (pick (eqb n 10) (Range (getD l 1 0)) (pick (eqb n 11) Place (pick (eqb n 12) Room (pick (eqb n 13) Nothing Slot))))))))))))))
 
 -- and its number is not 0
 pub refusal-known : (r : Refusal) → (refusalOf (refusalPaper r) ≡ r) × (eqb (getD (refusalPaper r) 0 0) 0 ≡ false)
 refusal-known Channel = (refl, refl)
 refusal-known Shape = (refl, refl)
-refusal-known Damaged = (refl, refl)
+refusal-known (Damaged Unplaced) = (refl, refl)
+refusal-known (Damaged Even) = (refl, refl)
+refusal-known (Damaged Outside) = (refl, refl)
 refusal-known Idle = (refl, refl)
 refusal-known Number = (refl, refl)
 refusal-known Early = (refl, refl)

@@ -2,8 +2,8 @@
 -- what it has written itself. That no second answer fits; that each number is given exactly where it belongs.
 -- Assumes nothing.
 use mathlib.Core.Path.{_≡_, _∙_, sym, ap, subst}
-use mathlib.Core.Bool.{true, false}
-use mathlib.Core.List.{List}
+use mathlib.Core.Bool.{false}
+use mathlib.Core.List.{List, [], _∷_}
 use Prim.Native.Nat.{ℕ, _^_, _≤_, _<_}
 use native.Mathlib.Omega.{arith}
 use borrow.Author.Tests.{eq-eqb, eqb-false}
@@ -15,9 +15,11 @@ use Rattle.strings.specs.declared.Verdict.{Verdict}
 use Rattle.strings.specs.declared.Verdict.the-variants.{Clean, Repaired}
 use Rattle.strings.specs.declared.Checked.{Checked}
 use Rattle.strings.specs.declared.Checked.the-variants.{Taken, Refused}
-use Rattle.strings.specs.declared.hamming.Ruling.the-variants.{Sound}
+use Rattle.strings.specs.declared.hamming.Ruling.the-variants.{Sound, Damaged as Bad}
+use Rattle.strings.specs.declared.hamming.Damage.{Damage}
+use Rattle.strings.specs.declared.hamming.Damage.the-variants.{Unplaced, Even}
 use Rattle.strings.specs.Number.{Bytes, numberOf, misshapen, bitOf, flip, stringBytes}
-use Rattle.strings.specs.Hamming.{ruling, isDamaged, mended, mendedBy, Encoded, Whole}
+use Rattle.strings.specs.Hamming.{ruling, mended, mendedBy, Encoded, Whole}
 use Rattle.strings.specs.Numbers.{verdictPaper, firstOf, Exactly}
 use Rattle.strings.specs.Calls.{Checks, soundTests, checkTests, checkedPaper, verdictTold, noRoom, isIdle}
 use Rattle.strings.proofs.Digits.{bit-lt, flip-lt, flip-undo}
@@ -58,8 +60,8 @@ module _ (s out : List ℕ) where
 
 -- ---- the answer for the bytes of a string, by its ruling and its idle bit
 module _ (n : ℕ) (h : n < 2 ^ 85) (out : List ℕ) (room : length out ≡ 11) where
-  says-damaged : isDamaged (ruling n) ≡ true → Checks (stringBytes n) out (Refused DAMAGED) out
-  says-damaged e = check-damaged _ out room (string-shaped n h) (ap (λ (m : ℕ). isDamaged (ruling m)) (string-number n h) ∙ e)
+  says-damaged : (d : Damage) → ruling n ≡ Bad d → Checks (stringBytes n) out (Refused (DAMAGED d)) out
+  says-damaged d e = check-damaged _ out room (string-shaped n h) d (ap ruling (string-number n h) ∙ e)
 
   module _ (v : Verdict) (e : ruling n ≡ Sound v) where
     ruled : ruling (numberOf (stringBytes n)) ≡ Sound v
@@ -86,10 +88,13 @@ module _ (n : ℕ) (h : n < 2 ^ 85) (v : Encoded n) (out : List ℕ) (room : len
   pub idle-refused : bitOf n 85 ≡ 1 → Checks (stringBytes n) out r out′ → (r ≡ Refused Idle) × (out′ ≡ out)
   idle-refused b a = check-once _ out r _ out′ _ a (says-idle n h out room Clean (encoded-ruling n v) b)
 
-  -- "By the last line a flip of bit 8 alone is refused"
-  pub bit-8-damaged : Checks (stringBytes (flip n 8)) out r out′ → (r ≡ Refused DAMAGED) × (out′ ≡ out)
+  -- "By the last line a flip of bit 8 alone is refused": 31, and nothing is written
+  pub bit-8-damaged : Checks (stringBytes (flip n 8)) out r out′ → (checkedPaper r ≡ 31 ∷ []) × (out′ ≡ out)
   bit-8-damaged a =
-      check-once _ out r _ out′ _ a (says-damaged (flip n 8) (flip-lt 85 n 8 h (omega arith) (omega arith)) out room (bit-8-ruling n v))
+      let e =
+      check-once _ out r _ out′ _ a (says-damaged (flip n 8) (flip-lt 85 n 8 h (omega arith) (omega arith)) out room Unplaced (bit-8-ruling n v))
+      in
+      (ap checkedPaper (e .0), e .1)
 
   module _ (i : ℕ) (l : 1 ≤ i) (u : i ≤ 85) where
     back : flip (flip n i) i ≡ n
@@ -109,12 +114,16 @@ module _ (n : ℕ) (h : n < 2 ^ 85) (v : Encoded n) (out : List ℕ) (room : len
         check-once _ out r _ out′ _ a
         (says-idle (flip n i) (flip-lt 85 n i h l u) out room (Repaired i) (one-flip-ruling n i v l u ne) (ap (λ (m : ℕ). bitOf m 85) back ∙ b))
 
-    -- two different flips are DAMAGED
+    -- two different flips are DAMAGED: 32, and nothing is written
     pub two-flips-damaged : (j : ℕ) → 1 ≤ j → j ≤ 85 → (i ≡ j → ⊥) → Checks (stringBytes (flip (flip n i) j)) out r out′
-        → (r ≡ Refused DAMAGED) × (out′ ≡ out)
+        → (checkedPaper r ≡ 32 ∷ []) × (out′ ≡ out)
     two-flips-damaged j l′ u′ ne a =
         let m = flip (flip n i) j in
-        check-once _ out r _ out′ _ a (says-damaged m (flip-lt 85 (flip n i) j (flip-lt 85 n i h l u) l′ u′) out room (two-flips-ruling n i j v l u l′ u′ ne))
+        let e =
+        check-once _ out r _ out′ _ a
+        (says-damaged m (flip-lt 85 (flip n i) j (flip-lt 85 n i h l u) l′ u′) out room Even (two-flips-ruling n i j v l u l′ u′ ne))
+        in
+        (ap checkedPaper (e .0), e .1)
 
 -- ---- whatever the check writes is encoded and has its idle bit at 0; and checking it again is clean
 module _ (s : List ℕ) (b : Bytes s) (out : List ℕ) (v : Verdict) (out′ : List ℕ) (a : Checks s out (Taken v) out′) where

@@ -10,6 +10,7 @@ use lib.Bits.{bitXor, xor-self, xor-zero-l}
 use lib.Dec.{T, eqb, eqb→eq}
 use Rattle.strings.specs.declared.Verdict.{Verdict}
 use Rattle.strings.specs.declared.Verdict.the-variants.{Clean, Repaired}
+use Rattle.strings.specs.declared.hamming.Damage.the-variants.{Unplaced, Even}
 use Rattle.strings.specs.declared.hamming.Ruling.{Ruling}
 use Rattle.strings.specs.declared.hamming.Ruling.the-variants.{Sound, Damaged}
 use Rattle.strings.specs.Pick.{pick}
@@ -40,10 +41,6 @@ repairs-is : (i : ℕ) (r : Ruling) → T (repairs i r) → r ≡ Sound (Repaire
 repairs-is i (Sound Clean) t = absurd t
 repairs-is i (Sound (Repaired j)) t = ap (λ (k : ℕ). Sound (Repaired k)) (eqb→eq j i t)
 repairs-is i (Damaged d) t = absurd t
-
-T-true : (b : Bool) → T b → b ≡ true
-T-true true t = refl
-T-true false t = absurd t
 
 -- ---- one bit: its position with C at 1 names the bit, but for bit 8
 abbrev named : ℕ → Ruling → Bool
@@ -84,11 +81,10 @@ one-flip-ruling n i v l u ne =
     ∙ repairs-is i (judge (position i) 1)
     (subst (λ (b : Bool). T (pick b (isDamaged (judge (position i) 1)) (repairs i (judge (position i) 1)))) (ne-eqb i 8 ne) (one-bit i l u))
 
-pub bit-8-ruling : (n : ℕ) → Encoded n → isDamaged (ruling (flip n 8)) ≡ true
-bit-8-ruling n v =
-    let l : 1 ≤ 8 = omega arith in
-    let u : 8 ≤ 85 = omega arith in
-    ap isDamaged (flip-ruling n 8 v l u) ∙ T-true _ (one-bit 8 l u)
+-- bit 8 has position 0: S stays 0, and C is 1
+pub bit-8-ruling : (n : ℕ) → Encoded n → ruling (flip n 8) ≡ Damaged Unplaced
+unfolding position judge sumsSet
+bit-8-ruling n v = flip-ruling n 8 v (omega arith) (omega arith)
 
 -- ---- with two bits flipped: two positions combined are not 0, and name no bit while C is 0
 -- the bit that a ruling on one bit names
@@ -112,21 +108,21 @@ bit-of-position i l u = named-is i (judge (position i) 1) (eqb i 8) refl (one-bi
 position-once : (i j : ℕ) → 1 ≤ i → i ≤ 85 → 1 ≤ j → j ≤ 85 → position i ≡ position j → i ≡ j
 position-once i j l u l′ u′ e = bit-of-position i l u ∙ ap (λ (p : ℕ). bitNamed (judge p 1)) e ∙ sym (bit-of-position j l′ u′)
 
-even-damaged : (s : ℕ) → (s ≡ 0 → ⊥) → isDamaged (judge s 0) ≡ true
+even-damaged : (s : ℕ) → (s ≡ 0 → ⊥) → judge s 0 ≡ Damaged Even
 unfolding judge
 even-damaged s h = rw (ne-eqb s 0 h)
 
-two-positions : (i j : ℕ) → 1 ≤ i → i ≤ 85 → 1 ≤ j → j ≤ 85 → (i ≡ j → ⊥) → isDamaged (judge (bitXor (position i) (position j)) 0) ≡ true
+two-positions : (i j : ℕ) → 1 ≤ i → i ≤ 85 → 1 ≤ j → j ≤ 85 → (i ≡ j → ⊥) → judge (bitXor (position i) (position j)) 0 ≡ Damaged Even
 two-positions i j l u l′ u′ ne =
     even-damaged (bitXor (position i) (position j))
     (λ z. ne (position-once i j l u l′ u′ (xor-same 7 (position i) (position j) (position-lt i l u) (position-lt j l′ u′) z)))
 
-pub two-flips-ruling : (n i j : ℕ) → Encoded n → 1 ≤ i → i ≤ 85 → 1 ≤ j → j ≤ 85 → (i ≡ j → ⊥) → isDamaged (ruling (flip (flip n i) j)) ≡ true
+pub two-flips-ruling : (n i j : ℕ) → Encoded n → 1 ≤ i → i ≤ 85 → 1 ≤ j → j ≤ 85 → (i ≡ j → ⊥) → ruling (flip (flip n i) j) ≡ Damaged Even
 unfolding ruling
 two-flips-ruling n i j v l u l′ u′ ne =
-    ap isDamaged (ap₂ judge
+    ap₂ judge
     (flip-syndrome (flip n i) j l′ u′ ∙ ap (λ (x : ℕ). bitXor x (position j)) (flip-syndrome n i l u ∙ ap (λ (x : ℕ). bitXor x (position i)) (v .sums) ∙ xor-zero-l (position i)))
-    (flip-all (flip n i) j l′ u′ ∙ ap (λ (x : ℕ). (x + 1) % 2) (flip-all n i l u ∙ ap (λ (x : ℕ). (x + 1) % 2) (v .all))))
+    (flip-all (flip n i) j l′ u′ ∙ ap (λ (x : ℕ). (x + 1) % 2) (flip-all n i l u ∙ ap (λ (x : ℕ). (x + 1) % 2) (v .all)))
     ∙ two-positions i j l u l′ u′ ne
 
 -- ---- what the check leaves is encoded: clean says that every sum is 0, and a repair names the bit whose position is S while C is 1

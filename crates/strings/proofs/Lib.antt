@@ -5,10 +5,11 @@ pub mod Value
 pub mod Shape
 pub mod Answer
 pub mod Tests
-pub mod SoundTests
 pub mod Sums
 pub mod Fold
 pub mod Judge
+pub mod DamagedExactly
+pub mod SoundTests
 pub mod CheckAnswers
 pub mod Flips
 pub mod Encode

@@ -1,10 +1,10 @@
 -- The public check, with one relation between what it was handed, its answer and what it left in the output; and what other calls on strings
 -- share with it.
 -- Assumes nothing.
-use Prim.Native.Nat.{ℕ}
-use mathlib.Core.Bool.{Bool, not}
-use mathlib.Core.List.{List, [], _∷_}
-use lib.Dec.{eqb}
+use Prim.Native.Nat.{ℕ, _+_, _-_}
+use mathlib.Core.Bool.{Bool, not, _&&_}
+use mathlib.Core.List.{List, [], _∷_, _++_}
+use lib.Dec.{eqb, leb, ltb}
 use lib.ListN.{length}
 use Rattle.strings.specs.declared.Checked.{Checked}
 use Rattle.strings.specs.declared.Checked.the-variants.{Taken, Refused}
@@ -13,7 +13,7 @@ use Rattle.strings.specs.declared.Written.the-variants.{Done, Refused as
 use Rattle.strings.specs.declared.hamming.Ruling.{Ruling}
 use Rattle.strings.specs.declared.hamming.Ruling.the-variants.{Sound, Damaged}
 use Rattle.strings.specs.Number.{numberOf, misshapen, bitOf, stringBytes}
-use Rattle.strings.specs.Hamming.{ruling, isDamaged, mended}
+use Rattle.strings.specs.Hamming.{sumAll, syndrome, sumsSet, highest, ruling, mended}
 use Rattle.strings.specs.Numbers.{refusalPaper, verdictPaper, Test, test, Answers}
 
 -- ROOM: "output not 11 bytes"
@@ -33,16 +33,25 @@ abbrev pub checkedPaper : Checked → List ℕ
 checkedPaper (Taken v) = 0 ∷ verdictPaper v
 checkedPaper (Refused r) = refusalPaper r
 
--- ---- 3, 4 of a plain string: "After a repair bit 85 must be 0, else IDLE". The check, the reader and the offer all make these tests, each with
--- tests of its own before and after them
-unfoldable pub soundTests : ℕ → List Test
-soundTests n = test 3 (isDamaged (ruling n)) ∷ test 4 (isIdle (mended n)) ∷ []
+-- ---- "3 becomes 31 (S = 0, C = 1), 32 (S not 0, C = 0) and 33 (place above 85), all in 3's position": by the sums, S and C. 33 is of the strings whose
+-- repair would be at bit S+8-K, "C = 1, two or more set"
+abbrev pub damageTests : ℕ → ℕ → List Test
+damageTests s c =
+    test 31 (eqb s 0 && eqb c 1)
+    ∷ test 32 (not (eqb s 0) && eqb c 0)
+    ∷ test 33 (eqb c 1 && leb 2 (sumsSet s) && ltb 85 (s + 8 - highest s))
+    ∷ []
 
--- ---- 2, 3, 4 of its bytes
+-- ---- 31, 32, 33, 4 of a plain string: "After a repair bit 85 must be 0, else IDLE". The check, the reader and the offer all make these tests, each
+-- with tests of its own before and after them
+unfoldable pub soundTests : ℕ → List Test
+soundTests n = damageTests (syndrome n) (sumAll n) ++ (test 4 (isIdle (mended n)) ∷ [])
+
+-- ---- 2, and these, of its bytes
 abbrev pub stringTests : List ℕ → List Test
 stringTests s = test 2 (misshapen s) ∷ soundTests (numberOf s)
 
--- ---- "Check: 12, 2, 3, 4"
+-- ---- "Check: 12, 2, 3, 4", with 31, 32, 33 for 3
 abbrev pub checkTests : List ℕ → List ℕ → List Test
 checkTests s out = test 12 (noRoom out) ∷ stringTests s
 

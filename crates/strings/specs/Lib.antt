@@ -4,5 +4,6 @@ pub mod Hamming
 pub mod Table413
 pub mod Numbers
 pub mod Calls
+pub mod Damage
 pub mod Orders
 pub mod Known

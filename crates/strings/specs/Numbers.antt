@@ -9,15 +9,23 @@ use lib.Dec.{T}
 use lib.ListN.{length, getD}
 use Rattle.strings.specs.declared.Refusal.{Refusal}
 use Rattle.strings.specs.declared.Refusal.the-variants.{Channel, Shape, Damaged, Idle, Number, Early, Stale, OffBeat, Conflict, Range, Place, Room, Nothing, Slot}
+use Rattle.strings.specs.declared.hamming.Damage.{Damage}
+use Rattle.strings.specs.declared.hamming.Damage.the-variants.{Unplaced, Even, Outside}
 use Rattle.strings.specs.declared.Verdict.{Verdict}
 use Rattle.strings.specs.declared.Verdict.the-variants.{Clean, Repaired}
 use Rattle.strings.specs.Pick.{pick}
+
+-- "31 (S = 0, C = 1), 32 (S not 0, C = 0) and 33 (place above 85)": the number of each cause
+abbrev pub damageNumber : Damage → ℕ
+damageNumber Unplaced = 31
+damageNumber Even = 32
+damageNumber Outside = 33
 
 -- "A refusal answers its number, with the place for RANGE, and nothing more"
 abbrev pub refusalPaper : Refusal → List ℕ
 refusalPaper Channel = 1 ∷ []
 refusalPaper Shape = 2 ∷ []
-refusalPaper Damaged = 3 ∷ []
+refusalPaper (Damaged d) = damageNumber d ∷ []
 refusalPaper Idle = 4 ∷ []
 refusalPaper Number = 5 ∷ []
 refusalPaper Early = 6 ∷ []

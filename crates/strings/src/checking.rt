@@ -27,7 +27,7 @@ pub fn check(s: &[u8], out: &mut [u8]) -> Checked
     }
     let found = examine(s);
     match found {
-        Ruling::Damaged(_) => Checked::Refused(Refusal::Damaged),
+        Ruling::Damaged(d) => Checked::Refused(Refusal::Damaged(d)),
         Ruling::Sound(v) => take(s, v, out),
     }
 }

@@ -16,12 +16,12 @@ pub use hamming::make_check_bits;
 pub use numbers::refusal_number;
 pub use numbers::wide;
 
-// The numbers that say no, in the paper's order. RANGE tells its place: the top bit number of the
-// word that failed.
+// The numbers that say no, in the paper's order. DAMAGED has a number for each cause. RANGE tells its
+// place: the top bit number of the word that failed.
 pub enum Refusal {
     Channel,
     Shape,
-    Damaged,
+    Damaged(Damage),
     Idle,
     Number,
     Early,

@@ -1,9 +1,10 @@
 // A refusal in the paper's numbers, and a byte as a longer number.
+use crate::Damage;
 use crate::Refusal;
 ghost use mathlib.Core.Path.{_≡_};
 ghost use Prim.Native.Nat.{_<_};
 ghost use lib.ListN.{getD};
-ghost use Rattle.strings.specs.Numbers.{refusalPaper};
+ghost use Rattle.strings.specs.Numbers.{damageNumber, refusalPaper};
 
 // The number of a refusal.
 pub fn refusal_number(r: Refusal) -> u8
@@ -12,7 +13,7 @@ pub fn refusal_number(r: Refusal) -> u8
     match r {
         Refusal::Channel => 1,
         Refusal::Shape => 2,
-        Refusal::Damaged => 3,
+        Refusal::Damaged(d) => damage_number(d),
         Refusal::Idle => 4,
         Refusal::Number => 5,
         Refusal::Early => 6,
@@ -24,6 +25,17 @@ pub fn refusal_number(r: Refusal) -> u8
         Refusal::Room => 12,
         Refusal::Nothing => 13,
         Refusal::Slot => 14,
+    }
+}
+
+// The number of a damage.
+fn damage_number(d: Damage) -> u8
+    ensures { λ n. ⌜ n ≡ damageNumber d ⌝ }
+{
+    match d {
+        Damage::Unplaced => 31,
+        Damage::Even => 32,
+        Damage::Outside => 33,
     }
 }
 

@@ -16,7 +16,7 @@ use Rattle.told.specs.Told.{packed}
 pub refusal-packed : (why : Refusal) → packed (getD (refusalPaper why) 0 0 ∷ getD (refusalPaper why) 1 0 ∷ []) ≡ packed (refusalPaper why)
 refusal-packed Channel = refl
 refusal-packed Shape = refl
-refusal-packed Damaged = refl
+refusal-packed (Damaged d) = refl
 refusal-packed Idle = refl
 refusal-packed Number = refl
 refusal-packed Early = refl

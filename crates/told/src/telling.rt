@@ -54,7 +54,7 @@ fn place_in(why: Refusal) -> u8
     match why {
         Refusal::Channel => 0,
         Refusal::Shape => 0,
-        Refusal::Damaged => 0,
+        Refusal::Damaged(_) => 0,
         Refusal::Idle => 0,
         Refusal::Number => 0,
         Refusal::Early => 0,

@@ -28,7 +28,7 @@ numberIn n = wordOf n 84 81
 abbrev pub rangeTest : List ℤ → Kind → Test
 rangeTest zs k = testAt 10 (firstBad (layout k) zs) (not (eqb (firstBad (layout k) zs) 0))
 
--- ---- "Reader (plain form): 2, 3, 4, 5, 11, 10"
+-- ---- "Reader (plain form): 2, 3, 4, 5, 11, 10", with 31, 32, 33 for 3
 -- 5, 11, 10 of the string n, of which kind k is asked
 abbrev pub wordTests : ℕ → Kind → List Test
 wordTests n k = test 5 (eqb (numberIn n) 0) ∷ test 11 (not (ofKind k (numberIn n))) ∷ rangeTest (valuesOf n (layout k)) k ∷ []

@@ -9,8 +9,8 @@ use Rattle.records.specs.declared.kinds.Kind.{Kind}
 use Rattle.records.specs.declared.named.Record.{Record}
 use Rattle.words.specs.Calls.{readTests, writeTests}
 
--- "Reader (plain form): 2, 3, 4, 5, 11, 10"
-pub read-order : (s : List ℕ) (k : Kind) → numbersOf (readTests s k) ≡ 2 ∷ 3 ∷ 4 ∷ 5 ∷ 11 ∷ 10 ∷ []
+-- "Reader (plain form): 2, 3, 4, 5, 11, 10", with 31, 32, 33 "all in 3's position"
+pub read-order : (s : List ℕ) (k : Kind) → numbersOf (readTests s k) ≡ 2 ∷ 31 ∷ 32 ∷ 33 ∷ 4 ∷ 5 ∷ 11 ∷ 10 ∷ []
 unfolding soundTests
 read-order s k = refl
 

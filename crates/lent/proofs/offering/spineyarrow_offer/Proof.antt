@@ -402,6 +402,23 @@ module _ {M : Type 1} (𝓤 : URA M) (H : Heap 𝓤) (A : Atoms 𝓤) (W : Given
         from-loop : (t : St) → Sq W (At t) (runs C Λ En body.t-16 (atRet En Post))
         from-loop t = first ! $ blocks ! $ loops ! 𝓣 Nearer Nearer-wf At (λ t′. elim (eq-or-lt-of-le (t′ .upto)) [ inl l ↦ over t′ l | inr l ↦ more t′ l ]) t
 
+    -- ---- what is newly shown, once the row p was offered to and put back: nothing is asked of what the other locals hold
+    module _ (n : T (not (isPast c))) (p : Offered) (ep : Offers row₀ e (s .now) p) (ip : Is OF.the-row p (OF′.lowered p ∷ [])) (l₀ l₁ l₂ l₃ l₄ l₅ l₆ l₇ l₈ l₉ l₁₀ l₁₁ l₁₂ l₁₃ l₁₄ l₁₅ l₁₆ l₁₇ l₁₈ l₁₉ l₂₀ l₂₁ l₂₂ l₂₃ : ℕ) where
+      abbrev Env₀ : Env 𝓤 H
+      Env₀ = envOf 𝓤 H body.locals (l₀ ∷ l₁ ∷ l₂ ∷ l₃ ∷ l₄ ∷ l₅ ∷ l₆ ∷ l₇ ∷ l₈ ∷ l₉ ∷ l₁₀ ∷ l₁₁ ∷ l₁₂ ∷ l₁₃ ∷ l₁₄ ∷ l₁₅ ∷ l₁₆ ∷ l₁₇ ∷ l₁₈ ∷ l₁₉ ∷ l₂₀ ∷ l₂₁ ∷ l₂₂ ∷ l₂₃ ∷ [])
+
+      -- [the reference; its token; the slice's; _23; …; _0; …]: local i is at 49 - 2 · i
+      from-newly : (v₂ v₃ v₄ v₅ v₉ v₁₀ v₁₁ v₁₂ v₁₃ v₁₄ v₁₅ : Val)
+          → Sq W (Ref κ γ (left h c p (h .book)) ∷ ‵ (flft κ q) ∷ Token ∷ locals 𝓤 H Env₀ (none ∷ holding (vptr b o) ∷ holding v₂ ∷ holding v₃ ∷ holding v₄ ∷ holding v₅ ∷ holding (OF′.lowered p) ∷ none ∷ none ∷ holding v₉ ∷ holding v₁₀ ∷ holding v₁₁ ∷ holding v₁₂ ∷ holding v₁₃ ∷ holding v₁₄ ∷ holding v₁₅ ∷ [])) (runs C Λ Env₀ body.t-13 (atRet Env₀ Post))
+      from-newly v₂ v₃ v₄ v₅ v₉ v₁₀ v₁₁ v₁₂ v₁₃ v₁₄ v₁₅ =
+          asks ! fm (Newly 𝓤 H A at-mem run) known-newly (to-newly p) (goes-newly p _ ip) (Array SH.the-row 5) shownsVal (array-tells SH.the-row (λ d. SH′.lowered d ∷ []) (SH′.lowers .val-is) 5) (λ ys. ys ≡ newlyOf p) _ (lasts newly′.ended tt (p .answer, (p .row .present, (p .row .strings, tt)))) (λ u′. id⊢ 𝓤 _)
+          (and-then ! (load ! (from ! (fld ! refl (stop !))) (look-in ! 38 (sub ! 1 refl (whole !)))) (and-then ! (load ! (from ! (fld ! refl (fld ! refl (stop !)))) (look-in ! 38 (sub ! 3 refl (sub ! 0 refl (whole !))))) (and-then ! (load ! (from ! (fld ! refl (fld ! refl (stop !)))) (look-in ! 38 (sub ! 1 refl (sub ! 0 refl (whole !))))) (no-more !)))) (λ xs ex ix.
+          land ! (from ! (stop !)) (init ! 17 refl (array-lawful 𝓤 H A W SH.the-row (EL.lawful SH.the-type SH′.the-laws 𝓤 H A W tt) 5 .typed xs _ ix .0)) $
+          assigns ! (of-opd ! (load ! (from ! (stop !)) (look ! 17 refl))) (from ! (stop !)) (init ! 35 refl (array-lawful 𝓤 H A W SH.the-row (EL.lawful SH.the-type SH′.the-laws 𝓤 H A W tt) 5 .typed xs _ ix .0)) $
+          assigns ! (of-opd ! (lit ! tt)) (from ! (stop !)) (init ! 33 refl (tt, record { fits = lit< tt })) $
+          forget ! 17 refl $ forget ! 19 refl $ forget ! 21 refl $ forget ! 23 refl $ forget ! 25 refl $ forget ! 27 refl $ forget ! 29 refl $ forget ! 31 refl $ forget ! 39 refl $ forget ! 41 refl $ forget ! 43 refl $ forget ! 45 refl $
+          from-loop n p ep ip xs ex ix l₀ l₁ l₂ l₃ l₄ l₅ l₆ l₇ l₈ l₉ l₁₀ l₁₁ l₁₂ l₁₃ l₁₄ l₁₅ l₁₆ l₁₇ l₁₈ l₁₉ l₂₀ l₂₁ l₂₂ l₂₃ (record { j = 0; st = left h c p (h .book); upto = omega arith; so-far = refl }))
+
     module _ (gc : c < 2 ^ 8) (ge : e < 2 ^ 32) (is : Is (ShrSlice (named 1) κ′ u8) s (v ∷ [])) where
       walk : ent 𝓤 (onEntry 𝓤 H A lent.signature (κ, (κ′, tt)) (q, (q′, tt)) x at) (WpFn 𝓤 H C Λ code.function (vptr b o ∷ vint w8 c ∷ vint w32 e ∷ v ∷ []) Post)
       walk =
@@ -445,14 +462,7 @@ module _ {M : Type 1} (𝓤 : URA M) (H : Heap 𝓤) (A : Atoms 𝓤) (W : Given
           use1 W (‵ (cellAt fullShare (ST.the-row .mir) (stationVal (rowsVal (set (h .rows) c (p .row))) (BK′.lowered (h .book)) ∷ []) b o)) (W .laws .at-raw fullShare ST′.mir b o (stationVal (rowsVal (set (h .rows) c (p .row))) (BK′.lowered (h .book)))) $
           owned ! ST.the-row (Is ST.the-row) (LL.makes ST.the-type ST′.the-plain 𝓤 H A) (left h c p (h .book)) _ (left-is p _ ih ip) $ move ! (1 ∷ 0 ∷ []) $ closes ! tt ST.the-row (left h c p (h .book)) (stationVal (rowsVal (set (h .rows) c (p .row))) (BK′.lowered (h .book)) ∷ []) b o $
           feqI ! (List Val) (vptr b o ∷ []) (vptr b o ∷ []) refl $ fjoin3 ! $
-          -- what is newly shown. [the reference; its token; the slice's; _23; …; _0; …]: local i is at 49 - 2 · i
-          asks ! fm (Newly 𝓤 H A at-mem run) known-newly (to-newly p) (goes-newly p _ ip) (Array SH.the-row 5) shownsVal (array-tells SH.the-row (λ d. SH′.lowered d ∷ []) (SH′.lowers .val-is) 5) (λ ys. ys ≡ newlyOf p) _ (lasts newly′.ended tt (p .answer, (p .row .present, (p .row .strings, tt)))) (λ u′. id⊢ 𝓤 _)
-          (and-then ! (load ! (from ! (fld ! refl (stop !))) (look-in ! 38 (sub ! 1 refl (whole !)))) (and-then ! (load ! (from ! (fld ! refl (fld ! refl (stop !)))) (look-in ! 38 (sub ! 3 refl (sub ! 0 refl (whole !))))) (and-then ! (load ! (from ! (fld ! refl (fld ! refl (stop !)))) (look-in ! 38 (sub ! 1 refl (sub ! 0 refl (whole !))))) (no-more !)))) (λ xs ex ix.
-          land ! (from ! (stop !)) (init ! 17 refl (array-lawful 𝓤 H A W SH.the-row (EL.lawful SH.the-type SH′.the-laws 𝓤 H A W tt) 5 .typed xs _ ix .0)) $
-          assigns ! (of-opd ! (load ! (from ! (stop !)) (look ! 17 refl))) (from ! (stop !)) (init ! 35 refl (array-lawful 𝓤 H A W SH.the-row (EL.lawful SH.the-type SH′.the-laws 𝓤 H A W tt) 5 .typed xs _ ix .0)) $
-          assigns ! (of-opd ! (lit ! tt)) (from ! (stop !)) (init ! 33 refl (tt, record { fits = lit< tt })) $
-          forget ! 17 refl $ forget ! 19 refl $ forget ! 21 refl $ forget ! 23 refl $ forget ! 25 refl $ forget ! 27 refl $ forget ! 29 refl $ forget ! 31 refl $ forget ! 39 refl $ forget ! 41 refl $ forget ! 43 refl $ forget ! 45 refl $
-          from-loop n p ep (lowly OF.the-type OF′.lowers p _ ip) xs ex ix l₀ l₁ l₂ l₃ l₄ l₅ l₆ l₇ l₈ l₉ l₁₀ l₁₁ l₁₂ l₁₃ l₁₄ l₁₅ l₁₆ l₁₇ l₁₈ l₁₉ l₂₀ l₂₁ l₂₂ l₂₃ (record { j = 0; st = left h c p (h .book); upto = omega arith; so-far = refl }))))))))))))))))))))))))))))))))))
+          from-newly n p ep (lowly OF.the-type OF′.lowers p _ ip) l₀ l₁ l₂ l₃ l₄ l₅ l₆ l₇ l₈ l₉ l₁₀ l₁₁ l₁₂ l₁₃ l₁₄ l₁₅ l₁₆ l₁₇ l₁₈ l₁₉ l₂₀ l₂₁ l₂₂ l₂₃ _ _ _ _ _ _ _ _ _ _ _))))))))))))))))))))))))))))))))
 
 module _ {M : Type 1} (𝓤 : URA M) (H : Heap 𝓤) (A : Atoms 𝓤) (W : Given 𝓤 H A) (mem : Memory → SProp 𝓤) (run : Routine → Fun 𝓤) (𝓣 : Tables 𝓤 H) (known-offer : Triple 𝓤 (𝓣 .C #channel·offer) (Offer 𝓤 H A mem run)) (known-newly : Triple 𝓤 (𝓣 .C #shows·newly-shown) (Newly 𝓤 H A mem run)) (known-one : Triple 𝓤 (𝓣 .C #lent·bring-one) (One 𝓤 H A mem run)) (known-told : Triple 𝓤 (𝓣 .C #lent·told-in) (Told 𝓤 H A mem run)) where
   lent-walks : Walks 𝓤 H A lent.ended stayed (WpFn 𝓤 H (𝓣 .C) (𝓣 .Λ) code.function) (lent.clauses 𝓤 H A mem run)

@@ -1,10 +1,9 @@
 -- `checking::check` meets its contract, return by return. Assumes nothing.
-use mathlib.Core.Path.{_≡_, _∙_, sym, ap}
+use mathlib.Core.Path.{_≡_, _∙_, sym}
 use mathlib.Core.Bool.{false}
 use borrow.Author.Needs.{needs}
 use denote.Ref.{now}
 use Rattle.strings.specs.Number.{misshapen}
-use Rattle.strings.specs.Hamming.{isDamaged}
 use Rattle.strings.proofs.Shape.{shaped, shape-told}
 use Rattle.strings.proofs.CheckAnswers.{check-no-room, check-no-shape, check-damaged}
 use Rattle.strings.proofs.checking.check.Statement.{statement}
@@ -26,21 +25,21 @@ returns-2 c = check-no-shape _ _ (c .before .before .if1 .left) (shape-told (c .
 examine-requires : tie.Need-examine-requires
 examine-requires c κs = shaped _ (shape c) .0
 
-enum-told : tie.Need-enum-told
-enum-told c = search needs
-
 enum-known-found : tie.Need-enum-known-found
 enum-known-found c = search needs
+
+enum-known-found-2 : tie.Need-enum-known-found-2
+enum-known-found-2 c = search needs
 
 take-requires : tie.Need-take-requires
 take-requires c κs =
     let d = c .before .before .before .before .before in
-    (d .before .before .if1 .left, (shape d, sym (c .before .before .before .before .examine .ensures) ∙ c .before .before .found .given .1))
+    (d .before .before .if1 .left, (shape d, sym (c .before .before .before .before .examine .ensures) ∙ c .before .before .found2 .given .1))
 
 returns-3 : tie.Need-returns-3
 returns-3 c =
-    let d = c .before .before .before in
-    check-damaged _ _ (d .before .before .if1 .left) (shape d) (ap isDamaged (sym (c .before .before .examine .ensures) ∙ c .enum-told .given .1))
+    let d = c .before .before .before .before in
+    check-damaged _ _ (d .before .before .if1 .left) (shape d) _ (sym (c .before .before .before .examine .ensures) ∙ c .before .found .given .1)
 
 same-length : tie.Need-same-length
 same-length c = search needs
@@ -56,8 +55,8 @@ check-spec =
     well-shaped-requires
     returns-2
     examine-requires
-    enum-told
     enum-known-found
+    enum-known-found-2
     take-requires
     returns-3
     same-length
