@@ -23,7 +23,11 @@ pub const FLIPS_TAKEN_FOR_BIT_85: [usize; 3] = [81, 3, 8];
 /// up to 87, place 88. Bit 85 is in none of them: it is not on the line.
 pub const FLIPS_THAT_DAMAGE: [(u8, &[usize]); 3] = [(31, &[8]), (32, &[9, 10]), (33, &[84, 8, 3])];
 
-/// A with these flips, in relative form.
+/// The same in the check bits alone: m, data and bit 85 stay. The last three add up to
+/// 97, place 98.
+pub const FLIPS_OF_CHECK_BITS: [(u8, &[usize]); 3] = [(31, &[8]), (32, &[2, 1]), (33, &[7, 6, 1])];
+
+/// A with the former flips, in relative form.
 pub const B_DAMAGED: [(u8, [u8; BYTES]); 3] = [
     (
         31,

@@ -5,7 +5,7 @@ mod common;
 
 use common::encoded_strings;
 use second::hamming::{check, encode, Sums, Verdict};
-use second::known::FLIPS_THAT_DAMAGE;
+use second::known::{FLIPS_OF_CHECK_BITS, FLIPS_THAT_DAMAGE};
 use second::random::SplitMix64;
 use second::refusal::{Damage, Refusal};
 use second::string::{NavString, BITS, IDLE_BIT};
@@ -171,7 +171,7 @@ fn strings_at_random_are_damaged_as_their_sums_tell() {
 #[test]
 fn flips_of_each_cause_damage_every_string() {
     for string in encoded_strings() {
-        for (number, flips) in FLIPS_THAT_DAMAGE {
+        for (number, flips) in FLIPS_THAT_DAMAGE.into_iter().chain(FLIPS_OF_CHECK_BITS) {
             let answer = check(&string.flipped(flips));
             assert_eq!(answer.map_err(Refusal::number), Err(number));
         }
