@@ -2,7 +2,7 @@
 
 use std::ops::RangeInclusive;
 
-use crate::refusal::Refusal;
+use crate::refusal::{Damage, Refusal};
 use crate::string::{NavString, BITS};
 
 /// Check bits 1 to 7 each belong to the sum of their number; bit 8 only to the
@@ -83,13 +83,15 @@ impl Sums {
         self.set().iter().map(|k| 1 << (k - 1)).sum()
     }
 
-    /// Rules a, b and c of ICD 4.7, and the paper's list after Table 4.13.
+    /// Rules a, b and c of ICD 4.7, and the paper's list after Table 4.13. No two of
+    /// 31, 32 and 33 fit the same sums.
     fn verdict(&self) -> Result<Verdict, Refusal> {
         match (self.whole, self.set().as_slice()) {
             (false, []) => Ok(Verdict::Clean),
+            (true, []) => Err(Refusal::Damaged(Damage::WholeAlone)),
+            (false, [_, ..]) => Err(Refusal::Damaged(Damage::WholeMissing)),
             (true, [check_bit]) => Ok(Verdict::Repaired { bit: *check_bit }),
             (true, [_, .., highest]) => self.wrong_data_bit(*highest),
-            _ => Err(Refusal::Damaged),
         }
     }
 
@@ -97,13 +99,13 @@ impl Sums {
     fn wrong_data_bit(&self, highest: usize) -> Result<Verdict, Refusal> {
         let bit = self.s() + 8 - highest;
         if bit > BITS {
-            return Err(Refusal::Damaged);
+            return Err(Refusal::Damaged(Damage::PlaceAbove85));
         }
         Ok(Verdict::Repaired { bit })
     }
 }
 
-/// DAMAGED by the check rule, then IDLE: "after a repair bit 85 must be 0". The
+/// 31 to 33 by the check rule, then IDLE: "after a repair bit 85 must be 0". The
 /// string given back has its repair made.
 pub fn check(string: &NavString) -> Result<(Verdict, NavString), Refusal> {
     let verdict = Sums::of(string).verdict()?;

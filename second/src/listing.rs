@@ -58,7 +58,7 @@ fn line(station: &mut Station, bytes: &[u8]) -> String {
 }
 
 /// "Channel, epoch, number (0 if taken), repaired bit (0 if none or number 1..4),
-/// m (0 for 1..5)."
+/// m (0 for 1..5)"; 31 to 33 have the zeros of 3.
 fn line_of_record(station: &mut Station, record: Record) -> String {
     let Record {
         channel,

@@ -1,5 +1,6 @@
 //! Makes inputs: requests for `trial` and records for the listing, from a seed.
 
+mod damage;
 mod feed;
 mod hearing;
 mod sample;
@@ -32,6 +33,7 @@ pub fn trial_input(seed: u64) -> Vec<u8> {
             station::add_all,
             Input::add_unknown_ops,
             station::entry_words::add_all,
+            damage::add_all,
         ],
     )
 }

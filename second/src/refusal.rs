@@ -7,7 +7,7 @@ use std::fmt;
 pub enum Refusal {
     Channel,
     Shape,
-    Damaged,
+    Damaged(Damage),
     Idle,
     Number,
     Early,
@@ -24,12 +24,26 @@ pub enum Refusal {
     Slot,
 }
 
+/// What the sums of a damaged string say: three numbers in the position of 3, which
+/// itself is answered nowhere.
+#[derive(Clone, Copy, Debug, PartialEq, Eq)]
+pub enum Damage {
+    /// "S = 0, C = 1."
+    WholeAlone,
+    /// "S not 0, C = 0."
+    WholeMissing,
+    /// "Place above 85": C = 1, two or more sums set, S+8-K above 85.
+    PlaceAbove85,
+}
+
 impl Refusal {
     pub fn number(self) -> u8 {
         match self {
             Refusal::Channel => 1,
             Refusal::Shape => 2,
-            Refusal::Damaged => 3,
+            Refusal::Damaged(Damage::WholeAlone) => 31,
+            Refusal::Damaged(Damage::WholeMissing) => 32,
+            Refusal::Damaged(Damage::PlaceAbove85) => 33,
             Refusal::Idle => 4,
             Refusal::Number => 5,
             Refusal::Early => 6,

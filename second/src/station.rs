@@ -33,7 +33,7 @@ pub enum Health {
 }
 
 impl Station {
-    /// Order of refusals: 1 to 9.
+    /// Order of refusals: 1 to 9, and 31 to 33 in the position of 3.
     pub fn offer(&mut self, channel: usize, epoch: u32, symbols: &[u8]) -> Result<Taken, Refusal> {
         let row = self.rows.get_mut(channel).ok_or(Refusal::Channel)?;
         let taken = row.offer(epoch, symbols)?;

@@ -19,7 +19,8 @@ pub fn answer_input(input: &[u8]) -> String {
         .collect()
 }
 
-fn answer_piece(station: &mut Station, piece: Piece) -> String {
+/// The line for one piece, without its end.
+pub fn answer_piece(station: &mut Station, piece: Piece) -> String {
     match piece {
         Piece::Whole(request) => answer_request(station, request),
         Piece::Short(count) => format!("short {count}"),

@@ -8,8 +8,8 @@ use crate::refusal::Refusal;
 use crate::string::{NavString, STRING_NUMBER};
 use kinds::Kind;
 
-/// Reads a plain string. Order of refusals: 2, 3, 4, 5, 11, 10. The string is read
-/// with its repair made, m included.
+/// Reads a plain string. Order of refusals: 2, 31 to 33, 4, 5, 11, 10. The string is
+/// read with its repair made, m included.
 pub fn read(kind: &Kind, bytes: &[u8]) -> Result<(usize, Vec<i64>), Refusal> {
     let string = NavString::from_bytes(bytes)?;
     let (_, string) = hamming::check(&string)?;

@@ -327,7 +327,8 @@ fn the_made_input_has_minus_zero_in_every_signed_word() {
     let strings: Vec<NavString> = whole
         .skip_while(|request| request.op != ENTRY_WORDS)
         .filter(|request| request.op == OFFER)
-        .map(|request| from_relative(&NavString::from_bytes(&request.payload[5..]).unwrap()))
+        .filter_map(|request| NavString::from_bytes(&request.payload[5..]).ok())
+        .map(|symbols| from_relative(&symbols))
         .filter(|string| (6..=13).contains(&string.m()))
         .collect();
     for index in SIGNED {

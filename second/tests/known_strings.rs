@@ -1,7 +1,7 @@
 //! The paper's "Known strings and edges", as far as they are about strings alone.
 
 use second::hamming::{check, encode, Sums, Verdict};
-use second::known::{a, A, B, B_INVERTED, FLIPS_TAKEN_FOR_BIT_85};
+use second::known::{a, A, B, B_DAMAGED, B_INVERTED, FLIPS_TAKEN_FOR_BIT_85, FLIPS_THAT_DAMAGE};
 use second::refusal::Refusal;
 use second::relative::{from_relative, to_relative};
 use second::string::{NavString, BITS};
@@ -18,6 +18,13 @@ fn repaired(flips: &[usize]) -> (usize, NavString) {
     match check(&a().flipped(flips)) {
         Ok((Verdict::Repaired { bit }, string)) => (bit, string),
         other => panic!("flips {flips:?} of A are not repaired: {other:?}"),
+    }
+}
+
+fn refusal_number(flips: &[usize]) -> u8 {
+    match check(&a().flipped(flips)) {
+        Err(refusal) => refusal.number(),
+        other => panic!("flips {flips:?} of A are not refused: {other:?}"),
     }
 }
 
@@ -69,19 +76,30 @@ fn bit_5_flipped_is_repaired() {
 }
 
 #[test]
-fn bit_8_flipped_is_damaged() {
-    assert_eq!(check(&a().flipped(&[8])), Err(Refusal::Damaged));
+fn bit_8_flipped_is_31() {
+    assert_eq!(s_of_flips(&[8]), 0);
+    assert_eq!(refusal_number(&[8]), 31);
 }
 
 #[test]
-fn bits_9_and_10_flipped_are_damaged() {
-    assert_eq!(check(&a().flipped(&[9, 10])), Err(Refusal::Damaged));
+fn bits_9_and_10_flipped_are_32() {
+    assert_eq!(s_of_flips(&[9, 10]), 6);
+    assert_eq!(refusal_number(&[9, 10]), 32);
 }
 
 #[test]
-fn bits_85_9_and_8_flipped_are_damaged() {
+fn bits_85_9_and_8_flipped_are_33() {
     assert_eq!(s_of_flips(&[85, 9, 8]), 87);
-    assert_eq!(check(&a().flipped(&[85, 9, 8])), Err(Refusal::Damaged));
+    assert_eq!(refusal_number(&[85, 9, 8]), 33);
+}
+
+#[test]
+fn a_damaged_in_relative_form() {
+    for ((number, flips), (same_number, symbols)) in FLIPS_THAT_DAMAGE.into_iter().zip(B_DAMAGED) {
+        assert_eq!(refusal_number(flips), number);
+        assert_eq!(same_number, number);
+        assert_eq!(to_relative(&a().flipped(flips)), Ok(string(&symbols)));
+    }
 }
 
 #[test]

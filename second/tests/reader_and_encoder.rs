@@ -1,10 +1,10 @@
 //! The reader and the encoder: orders of refusals, records there and back.
 
 use second::alter::{with_code, with_m};
-use second::hamming::encode;
-use second::known::{a, A};
+use second::hamming::{check, encode};
+use second::known::{a, A, FLIPS_THAT_DAMAGE};
 use second::random::SplitMix64;
-use second::refusal::Refusal;
+use second::refusal::{Damage, Refusal};
 use second::string::{NavString, IDLE_BIT};
 use second::words::kinds::{
     Kind, EVEN, FRAME_5_STRING_14, H, KINDS, ODD, STRING_1, STRING_2, STRING_5,
@@ -86,24 +86,59 @@ fn one_flip_changes_nothing_that_is_read() {
         }
         assert_eq!(
             read_string(kind, &string.flipped(&[8])),
-            Err(Refusal::Damaged)
+            Err(Refusal::Damaged(Damage::WholeAlone))
         );
     }
 }
 
 #[test]
-fn the_reader_refuses_in_the_order_2_3_4_5_11_10() {
+fn every_two_flips_are_32() {
+    let string = SplitMix64::new(9).string_of(&STRING_5);
+    let expected = Err(Refusal::Damaged(Damage::WholeMissing));
+    for high in 1..=85 {
+        for low in 1..high {
+            let answer = read_string(&STRING_5, &string.flipped(&[high, low]));
+            assert_eq!(answer, expected, "bits {high}, {low}");
+        }
+    }
+}
+
+/// Of two flips and more, every kind with each cause.
+#[test]
+fn the_reader_says_what_the_check_says_of_damage() {
+    let mut random = SplitMix64::new(10);
+    for kind in KINDS {
+        let string = random.string_of(kind);
+        for (number, flips) in FLIPS_THAT_DAMAGE {
+            let answer = read_string(kind, &string.flipped(flips));
+            assert_eq!(answer.map_err(Refusal::number), Err(number));
+        }
+        for round in 0..200 {
+            let flipped = string.flipped(&random.bit_numbers(2 + round % 6));
+            if let Err(Refusal::Damaged(damage)) = check(&flipped) {
+                let answer = read_string(kind, &flipped);
+                assert_eq!(answer, Err(Refusal::Damaged(damage)));
+            }
+        }
+    }
+}
+
+#[test]
+fn the_reader_refuses_in_the_order_2_31_to_33_4_5_11_10() {
     // tb is 0, and each string has one wrong less than the one before.
     let mut idle = NavString::zero();
     idle.set(IDLE_BIT, true);
     let idle = encode(&idle);
-    let damaged = idle.flipped(&[9, 10]);
-    let mut misshapen = damaged.to_bytes();
-    misshapen[10] |= 1;
     let number = NavString::zero();
     let place = with_m(&number, 3);
-    assert_eq!(read(&STRING_2, &misshapen), Err(Refusal::Shape));
-    assert_eq!(read_string(&STRING_2, &damaged), Err(Refusal::Damaged));
+    for (cause, flips) in FLIPS_THAT_DAMAGE {
+        let damaged = idle.flipped(flips);
+        let mut misshapen = damaged.to_bytes();
+        misshapen[10] |= 1;
+        assert_eq!(read(&STRING_2, &misshapen), Err(Refusal::Shape));
+        let answer = read_string(&STRING_2, &damaged);
+        assert_eq!(answer.map_err(Refusal::number), Err(cause));
+    }
     assert_eq!(read_string(&STRING_2, &idle), Err(Refusal::Idle));
     assert_eq!(read_string(&STRING_2, &number), Err(Refusal::Number));
     assert_eq!(read_string(&STRING_2, &place), Err(Refusal::Place));

@@ -1,7 +1,8 @@
-//! The numbers of the paper's table, and SHAPE and IDLE where strings come in.
+//! The numbers of the paper's table, 31 to 33 in the position of 3, and SHAPE and
+//! IDLE where strings come in.
 
 use second::known::{a, A};
-use second::refusal::Refusal;
+use second::refusal::{Damage, Refusal};
 use second::relative::to_relative;
 use second::string::NavString;
 
@@ -10,7 +11,9 @@ fn numbers_are_those_of_the_table() {
     let in_order = [
         Refusal::Channel,
         Refusal::Shape,
-        Refusal::Damaged,
+        Refusal::Damaged(Damage::WholeAlone),
+        Refusal::Damaged(Damage::WholeMissing),
+        Refusal::Damaged(Damage::PlaceAbove85),
         Refusal::Idle,
         Refusal::Number,
         Refusal::Early,
@@ -24,7 +27,8 @@ fn numbers_are_those_of_the_table() {
         Refusal::Slot,
     ];
     let numbers: Vec<u8> = in_order.iter().map(|refusal| refusal.number()).collect();
-    assert_eq!(numbers, (1..=14).collect::<Vec<u8>>());
+    let expected = [1, 2, 31, 32, 33].into_iter().chain(4..=14);
+    assert_eq!(numbers, expected.collect::<Vec<u8>>());
 }
 
 #[test]

@@ -1,11 +1,12 @@
 //! `trial`'s lines: framing, payloads, the order of refusals, the made input.
 
-use second::known::{received_frame, A, B, B_INVERTED};
+use second::known::{a, received_frame, A, B, B_DAMAGED, B_INVERTED, FLIPS_THAT_DAMAGE};
 use second::relative::to_relative;
 use second::request::{
     append, pieces, values_to_bytes, Piece, CHECK, ENTRY, ENTRY_WORDS, FRESH, FROM_RELATIVE,
     HEALTH, IMMEDIATE, OFFER, READ, RESET, TALLIES, TO_RELATIVE, WRITE,
 };
+use second::string::NavString;
 use second::{make, trial};
 
 const A_HEX: &str = "0800000000000000000680";
@@ -46,15 +47,35 @@ fn a_repair_names_its_bit() {
 }
 
 #[test]
-fn check_refuses_in_the_order_12_2_3_4() {
-    let damaged = [&[0x80 | A[0], 0x80], &A[2..]].concat();
-    let damaged_and_padded = [&damaged[..10], &[0x81]].concat();
+fn check_refuses_in_the_order_12_2_31_to_33_4() {
     // Bit 85 stands at position 84 = 64 + 16 + 4: check bits 7, 5 and 3.
     let clean_but_for_idle = [0x80, 0, 0, 0, 0, 0, 0, 0, 0, 0x02, 0xA0];
-    assert_eq!(answer(CHECK, 10, &damaged_and_padded), "no 12\n");
-    assert_eq!(answer(CHECK, 11, &damaged_and_padded), "no 2\n");
-    assert_eq!(answer(CHECK, 11, &damaged), "no 3\n");
+    let string = NavString::from_bytes(&clean_but_for_idle).unwrap();
+    for (number, flips) in FLIPS_THAT_DAMAGE {
+        let damaged = string.flipped(flips).to_bytes();
+        let damaged_and_padded = [&damaged[..10], &[damaged[10] | 1]].concat();
+        assert_eq!(answer(CHECK, 10, &damaged_and_padded), "no 12\n");
+        assert_eq!(answer(CHECK, 11, &damaged_and_padded), "no 2\n");
+        assert_eq!(answer(CHECK, 11, &damaged), format!("no {number}\n"));
+    }
     assert_eq!(answer(CHECK, 11, &clean_but_for_idle), "no 4\n");
+}
+
+#[test]
+fn damaged_strings_print_31_to_33_in_the_check_the_reader_and_the_offer() {
+    for (flips, line) in [
+        (&[8][..], "no 31\n"),
+        (&[9, 10], "no 32\n"),
+        (&[85, 9, 8], "no 33\n"),
+    ] {
+        let string = a().flipped(flips).to_bytes();
+        assert_eq!(answer(CHECK, 11, &string), line);
+        assert_eq!(answer(READ, 1, &string), line);
+    }
+    for (number, symbols) in B_DAMAGED {
+        let payload = [&[0, 0, 0, 0, 100], &symbols[..]].concat();
+        assert_eq!(answer_payload(OFFER, &payload), format!("no {number}\n"));
+    }
 }
 
 #[test]
@@ -270,12 +291,32 @@ fn the_made_input_follows_from_its_seed() {
 fn the_made_input_draws_every_kind_of_line() {
     let lines = trial::answer_input(&make::trial_input(7));
     for kind in [
-        "ok 0 ", "ok 85 ", "no 1", "no 2", "no 3", "no 4", "no 5", "no 6", "no 7", "no 8", "no 9",
-        "no 10 76", "no 11", "no 12", "no 13", "no 14", "taken 1 ", "bad 0", "bad 4", "bad 5",
-        "bad 6", "bad 12", "bad 23", "short 10",
+        "ok 0 ", "ok 85 ", "no 1", "no 2", "no 31", "no 32", "no 33", "no 4", "no 5", "no 6",
+        "no 7", "no 8", "no 9", "no 10 76", "no 11", "no 12", "no 13", "no 14", "taken 1 ",
+        "bad 0", "bad 4", "bad 5", "bad 6", "bad 12", "bad 23", "short 10",
     ] {
         assert!(lines.lines().any(|line| line.starts_with(kind)), "{kind}");
     }
+}
+
+/// The seed is that of the stored input.
+#[test]
+fn the_made_input_has_each_cause_of_damage_in_each_call() {
+    let input = make::trial_input(20260);
+    let lines = trial::answer_input(&input);
+    let answered = |asked: u8, line: &str| {
+        let mut pairs = pieces(&input).zip(lines.lines());
+        pairs.any(|(piece, other)| match piece {
+            Piece::Whole(request) => request.op == asked && other == line,
+            Piece::Short(_) => false,
+        })
+    };
+    for op in [CHECK, READ, OFFER] {
+        for line in ["no 31", "no 32", "no 33"] {
+            assert!(answered(op, line), "op {op}: {line}");
+        }
+    }
+    assert!(!lines.lines().any(|line| line == "no 3"));
 }
 
 #[test]

@@ -31,7 +31,7 @@ pub(super) fn add_all(input: &mut Input) {
 }
 
 impl Input {
-    fn fresh(&mut self) {
+    pub(super) fn fresh(&mut self) {
         self.request(FRESH, &[]);
     }
 
@@ -39,7 +39,7 @@ impl Input {
         self.request(RESET, &[channel]);
     }
 
-    fn offer_symbols(&mut self, channel: u8, epoch: u32, symbols: &[u8]) {
+    pub(super) fn offer_symbols(&mut self, channel: u8, epoch: u32, symbols: &[u8]) {
         let payload = [&[channel], &epoch.to_be_bytes()[..], symbols].concat();
         self.request(OFFER, &payload);
     }
@@ -49,7 +49,7 @@ impl Input {
     }
 
     /// In either polarity.
-    fn offer(&mut self, channel: u8, epoch: u32, string: &NavString) {
+    pub(super) fn offer(&mut self, channel: u8, epoch: u32, string: &NavString) {
         let symbols = in_some_polarity(&mut self.random, string);
         self.offer_symbols(channel, epoch, &symbols.to_bytes());
     }

@@ -45,7 +45,7 @@ impl Row {
         answer
     }
 
-    /// Order of refusals: 2 to 9.
+    /// Order of refusals: 2 to 9, and 31 to 33 in the position of 3.
     fn take(&mut self, epoch: u32, symbols: &[u8]) -> Result<Taken, Refusal> {
         let (verdict, string) = receive(symbols)?;
         let m = string.require_m()?;

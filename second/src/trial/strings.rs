@@ -25,7 +25,7 @@ pub fn to_relative(payload: &[u8]) -> Option<Answer> {
     })
 }
 
-/// Order of refusals: 12, 2, 3, 4.
+/// Order of refusals: 12, 2, 31 to 33, 4.
 pub fn check(payload: &[u8]) -> Option<Answer> {
     with_room(payload, |string| {
         let (verdict, repaired) = hamming::check(&string)?;

@@ -1,6 +1,6 @@
 //! The listing program.
 
-use second::known::{B, B_INVERTED, FLIPS_TAKEN_FOR_BIT_85};
+use second::known::{B, B_DAMAGED, B_INVERTED, FLIPS_TAKEN_FOR_BIT_85};
 use second::listing::{answer_stream, Record};
 use second::make;
 use second::relative::to_relative;
@@ -42,8 +42,8 @@ fn no_input_prints_nothing() {
     }
 }
 
-/// Every string but the damaged one has bit 20 flipped; the first is taken and the
-/// others are refused with 1 to 9.
+/// Every string but the damaged ones has bit 20 flipped; the first is taken and the
+/// others are refused with 1 to 9, in the position of 3 with 31 to 33.
 #[test]
 fn the_repaired_bit_shows_from_5_on_and_m_from_6_on() {
     let string = string_1(1);
@@ -54,7 +54,9 @@ fn the_repaired_bit_shows_from_5_on_and_m_from_6_on() {
         record(0, 100, &flipped(&string)),
         record(99, 100, &flipped(&string)),
         shape,
+        record(0, 100, &string.flipped(&[8])),
         record(0, 100, &string.flipped(&[20, 21])),
+        record(0, 100, &string.flipped(&[84, 8, 3])),
         record(0, 100, &string.flipped(&FLIPS_TAKEN_FOR_BIT_85)),
         record(0, 100, &flipped(&with_m(&string, 0))),
         record(0, 1, &flipped(&string_3())),
@@ -66,7 +68,9 @@ fn the_repaired_bit_shows_from_5_on_and_m_from_6_on() {
     let expected = "0 100 0 20 1
 99 100 1 0 0
 0 100 2 0 0
-0 100 3 0 0
+0 100 31 0 0
+0 100 32 0 0
+0 100 33 0 0
 0 100 4 0 0
 0 100 5 20 0
 0 1 6 20 3
@@ -79,26 +83,55 @@ fn the_repaired_bit_shows_from_5_on_and_m_from_6_on() {
 }
 
 #[test]
+fn damaged_strings_print_31_to_33_and_zeros() {
+    let records = B_DAMAGED.map(|(_, symbols)| {
+        Record {
+            channel: 3,
+            epoch: 7,
+            symbols,
+        }
+        .to_bytes()
+    });
+    let expected = "3 7 31 0 0\n3 7 32 0 0\n3 7 33 0 0\n";
+    assert_eq!(lines(&records.concat()), expected);
+}
+
+#[test]
 fn epochs_print_as_32_bit_numbers() {
     let input = record(7, u32::MAX, &string_1(1));
     assert_eq!(lines(&input), "7 4294967295 0 0 1\n");
 }
 
+fn made(seed: u64, count: u64) -> Vec<u8> {
+    let mut bytes = Vec::new();
+    make::write_listing(seed, count, &mut bytes).unwrap();
+    bytes
+}
+
+fn require_every_number(input: &[u8]) {
+    let lines = lines(input);
+    let has = |number: u8| {
+        let has_number = |line: &str| line.split(' ').nth(2) == Some(&number.to_string());
+        lines.lines().any(has_number)
+    };
+    for number in [0, 1, 2, 31, 32, 33].into_iter().chain(4..=9) {
+        assert!(has(number), "{number}");
+    }
+    assert!(!has(3));
+}
+
 #[test]
 fn made_records_follow_from_their_seed_and_draw_every_number() {
-    let made = |seed, count| {
-        let mut bytes = Vec::new();
-        make::write_listing(seed, count, &mut bytes).unwrap();
-        bytes
-    };
     let input = made(1, 10_000);
     assert_eq!(input.len(), 160_000);
     assert_eq!(input, made(1, 10_000));
     assert_eq!(input[..1600], made(1, 100));
     assert_ne!(input, made(2, 10_000));
-    let lines = lines(&input);
-    for number in 0..=9 {
-        let has_number = |line: &str| line.split(' ').nth(2) == Some(&number.to_string());
-        assert!(lines.lines().any(has_number), "{number}");
-    }
+    require_every_number(&input);
+}
+
+/// The seed and the count are those of the stored input.
+#[test]
+fn the_stored_records_draw_every_number() {
+    require_every_number(&made(20260, 20_000));
 }

@@ -1,6 +1,6 @@
 //! The order of tests, and what a refusal leaves behind.
 
-use second::known::FLIPS_TAKEN_FOR_BIT_85;
+use second::known::{B_DAMAGED, FLIPS_TAKEN_FOR_BIT_85, FLIPS_THAT_DAMAGE};
 use second::refusal::Refusal;
 use second::relative::to_relative;
 use second::station::Station;
@@ -20,23 +20,27 @@ fn padded(string: &NavString) -> Vec<u8> {
     bytes
 }
 
-/// Each offer has one wrong less than the one before.
+/// Each offer has one wrong less than the one before; the damaged ones differ in
+/// their cause.
 #[test]
 fn an_offer_is_refused_in_the_order_1_to_9() {
     let mut station = held();
     let no_number = with_m(&string_1(2), 0);
-    let damaged = no_number.flipped(&[9, 10]);
     let idle = no_number.flipped(&FLIPS_TAKEN_FOR_BIT_85);
-    assert_eq!(
-        station.offer(24, 0, &padded(&damaged)),
-        Err(Refusal::Channel)
-    );
-    assert_eq!(station.offer(0, 0, &padded(&damaged)), Err(Refusal::Shape));
+    for (number, flips) in FLIPS_THAT_DAMAGE {
+        let damaged = no_number.flipped(flips);
+        assert_eq!(
+            station.offer(24, 0, &padded(&damaged)),
+            Err(Refusal::Channel)
+        );
+        assert_eq!(station.offer(0, 0, &padded(&damaged)), Err(Refusal::Shape));
+        let answer = offer(&mut station, 0, 0, &damaged);
+        assert_eq!(answer.map_err(Refusal::number), Err(number));
+    }
     let mut number_of = |epoch, string: &NavString| {
         let answer = offer(&mut station, 0, epoch, string);
         answer.map_or_else(|refusal| refusal.number(), |_| 0)
     };
-    assert_eq!(number_of(0, &damaged), 3);
     assert_eq!(number_of(0, &idle), 4);
     assert_eq!(number_of(0, &no_number), 5);
     assert_eq!(number_of(0, &string_3()), 6);
@@ -44,6 +48,41 @@ fn an_offer_is_refused_in_the_order_1_to_9() {
     assert_eq!(number_of(1001, &string_1(2)), 8);
     assert_eq!(number_of(1000, &string_1(2)), 9);
     assert_eq!(number_of(1015, &string_1(2)), 0);
+}
+
+/// Wherever it would belong: no frame held, the held frame, early, stale, off beat, a
+/// new frame.
+#[test]
+fn damaged_strings_have_their_own_numbers_in_either_polarity() {
+    for (number, symbols) in B_DAMAGED {
+        let inverted = NavString::from_bytes(&symbols).unwrap().inverted();
+        for symbols in [symbols, inverted.to_bytes()] {
+            let answer = Station::default().offer(0, 100, &symbols);
+            assert_eq!(answer.map_err(Refusal::number), Err(number));
+            for epoch in [1000, 0, 900, 1007, 1015, u32::MAX] {
+                let answer = held().offer(0, epoch, &symbols);
+                assert_eq!(answer.map_err(Refusal::number), Err(number));
+            }
+        }
+    }
+}
+
+/// Bit 85 is read as 0, so it cannot be flipped on the line.
+#[test]
+fn every_flip_on_the_line_is_taken_but_bit_8_and_every_two_are_32() {
+    let string = string_1(1);
+    let mut station = held();
+    let mut number_of = |flips: &[usize]| {
+        let answer = offer(&mut station, 0, 1000, &string.flipped(flips));
+        answer.map_or_else(|refusal| refusal.number(), |_| 0)
+    };
+    for high in 1..85 {
+        let expected = if high == 8 { 31 } else { 0 };
+        assert_eq!(number_of(&[high]), expected, "bit {high}");
+        for low in 1..high {
+            assert_eq!(number_of(&[high, low]), 32, "bits {high}, {low}");
+        }
+    }
 }
 
 #[test]
@@ -70,6 +109,8 @@ fn a_refused_string_changes_nothing_but_tallies() {
     let refused = [
         (1000, string_1(2)),
         (1000, string_1(1).flipped(&[8])),
+        (1000, string_1(1).flipped(&[9, 10])),
+        (1000, string_1(1).flipped(&[84, 8, 3])),
         (1007, string_1(1)),
         (900, string_1(1)),
         (1, string_3()),

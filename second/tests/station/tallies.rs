@@ -42,19 +42,21 @@ fn every_refusal_from_2_to_9_counts() {
     assert!(station.offer(0, 100, &[0; 10]).is_err());
     let three_flips = string.flipped(&second::known::FLIPS_TAKEN_FOR_BIT_85);
     let refused = [
-        (100, string.flipped(&[8])),
-        (100, three_flips),
-        (100, with_m(&string, 0)),
-        (0, string_3()),
-        (99, string),
-        (101, string),
-        (100, string_1(2)),
+        (31, 100, string.flipped(&[8])),
+        (32, 100, string.flipped(&[9, 10])),
+        (33, 100, string.flipped(&[84, 8, 3])),
+        (4, 100, three_flips),
+        (5, 100, with_m(&string, 0)),
+        (6, 0, string_3()),
+        (7, 99, string),
+        (8, 101, string),
+        (9, 100, string_1(2)),
     ];
-    for (number, (epoch, string)) in (3..).zip(refused) {
+    for (count, (number, epoch, string)) in (2..).zip(refused) {
         let answer = offer(&mut station, 0, epoch, &string);
         assert_eq!(answer.map_err(|refusal| refusal.number()), Err(number));
+        assert_eq!(counts(&station, 0), [count + 1, 1, 0, count]);
     }
-    assert_eq!(counts(&station, 0), [9, 1, 0, 8]);
 }
 
 #[test]
