@@ -1,4 +1,4 @@
--- The eight tests of an offer, one by one: what `Passes` says of the first five, and which numbers a taken offer leaves possible. A taken string has
+-- The tests of an offer, one by one: what `Passes` says of 2 to 6, and which numbers a taken offer leaves possible. A taken string has
 -- eleven bytes and padding 0 (all-pass).
 -- Assumes nothing.
 use mathlib.Core.Path.{_≡_, refl, sym, ap, _∙_}
