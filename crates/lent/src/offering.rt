@@ -22,12 +22,14 @@ pub extern "C" fn spineyarrow_offer(st: &mut Station, channel: u8, epoch: u32, s
     }
     let i = channel as usize;
     let offered = channel::offer(st.rows[i], epoch, s);
+    // told first: kept until the book has been brought up to date, the answer would lie in memory
+    let told = told_in(offered.answer);
     st.rows[i] = offered.row;
     let shown = newly_shown(offered.answer, offered.row.present, offered.row.strings);
     for j in 0..5 {
         bring_one(st, shown[j]);
     }
-    told_in(offered.answer)
+    told
 }
 
 // Joins what is shown to the book, in its place: an entry is copied only where what is shown rises.

@@ -72,7 +72,7 @@ use Rattle.station.proofs.Station.Laws as ST′
 use Rattle.lent.specs.Lent.{BringsOne}
 use Rattle.lent.proofs.Item.{map-set, either-way, lows-set, low-is, low-typed, low-item}
 use Rattle.lent.proofs.Parts.{entryBytes, bookAt, rowsVal, bookVal, stationVal, rows-of, entries-of, book-made, made-of}
-use Rattle.lent.proofs.Walk.{envOf, locals, free-all, asks}
+use Rattle.lent.proofs.Walk.{envOf, locals, free-all, local-of, sets, asks}
 use Rattle.lent.proofs.offering.bring_one.Key.{name as #lent·bring-one}
 use Rattle.lent.proofs.offering.bring_one as one
 use Rattle.lent.proofs.offering.bring_one.Statement as stated
@@ -196,34 +196,34 @@ module _ {M : Type 1} (𝓤 : URA M) (H : Heap 𝓤) (A : Atoms 𝓤) (W : Given
         use1 W (‵ (fat fullShare ST′.mir b o (stationVal (rowsVal (h .rows)) (bookVal (arrayVal us))))) (W .laws .raw-at fullShare ST′.mir b o (ST′.lowered h)) $
         -- [the station's cell; the open borrow; obs; auth; _16; …; _0; …]: local i is at 36 - 2 · i
         asks ! fm (Place 𝓤 H A at-mem run) known-place to-place (goes-place is ib) usize (vint w64) (uint-tells w64) (λ r. (r ≡ placeIn s) × (r < slots)) _ (lasts place′.ended tt (s, tt)) (λ u. id⊢ 𝓤 _)
-        (and-then ! (load ! (from ! (stop !)) (look ! 33 refl)) (no-more !)) (λ k ek ik.
+        (λ P. and-then ! (local-of ! 33 refl refl) (no-more !)) (λ k ek ik.
         land ! (from ! (stop !)) (init ! 30 refl (uint-lawful 𝓤 H A W w64 .typed k _ ik .0)) $
-        assigns ! (bin ! (load ! (from ! (stop !)) (look ! 30 refl)) (lit ! tt) (record { fits = in-bytes k (ek .1) })) (from ! (stop !)) (init ! 26 refl (tt, record { fits = in-bytes k (ek .1) })) $
-        assigns ! (addr ! (from ! (hop ! (look ! 34 refl) (fld ! refl (fld ! refl (stop !)))))) (from ! (stop !)) (init ! 24 refl (tt, tt)) $
-        assigns ! (bin ! (load ! (from ! (stop !)) (look ! 24 refl)) (load ! (from ! (stop !)) (look ! 26 refl)) tt) (from ! (stop !)) (init ! 22 refl (tt, tt)) $
+        sets ! (bin ! (local-of ! 30 refl refl) (lit ! tt) (record { fits = in-bytes k (ek .1) })) 26 refl refl (tt, record { fits = in-bytes k (ek .1) }) $
+        sets ! (addr ! (from ! (hop ! (look ! 34 refl) (fld ! refl (fld ! refl (stop !)))))) 24 refl refl (tt, tt) $
+        sets ! (bin ! (local-of ! 24 refl refl) (local-of ! 26 refl refl) tt) 22 refl refl (tt, tt) $
         rewrite ! 22 (λ (z : ℕ). ‵ (fat fullShare tyPtr l₇ 0 (vptr b z))) (sym (place-is entryBytes (o + bookAt + 0) k)) refl $
-        assigns ! (of-opd ! (load ! (from ! (hop ! (look ! 22 refl) (stop !))) (look-in ! 0 (low-item ! EN.the-type EN′.lowers (h .book .entries) (entries-of h _ ih) k (ek .1) blank (sub ! 0 refl (sub ! 1 refl (whole !))))))) (from ! (stop !)) (init ! 20 refl (low-typed EN.the-type EN′.lowers slots (h .book .entries) (entries-of h _ ih) k (ek .1) blank EN′.mir entry-typed)) $
+        sets ! (of-opd ! (load ! (from ! (hop ! (look ! 22 refl) (stop !))) (look-in ! 0 (low-item ! EN.the-type EN′.lowers (h .book .entries) (entries-of h _ ih) k (ek .1) blank (sub ! 0 refl (sub ! 1 refl (whole !))))))) 20 refl refl (low-typed EN.the-type EN′.lowers slots (h .book .entries) (entries-of h _ ih) k (ek .1) blank EN′.mir entry-typed) $
         rewrite ! 20 (λ (w : Val). ‵ (fat fullShare EN′.mir l₈ 0 w)) (List·getD-map EN′.lowered (h .book .entries) k blank) refl $
         asks ! fm (Rises 𝓤 H A at-mem run) known-rises (to-rises (entryAt h k)) (goes-rises (entryAt h k) (old-is k (ek .1) ih) is) bool vbool bool-tells (RisesIs (entryAt h k) s) _ (lasts rises′.ended tt (entryAt h k, (s, tt))) (λ u. id⊢ 𝓤 _)
-        (and-then ! (load ! (from ! (stop !)) (look ! 21 refl)) (and-then ! (load ! (from ! (stop !)) (look ! 33 refl)) (no-more !))) (λ y ey iy.
+        (λ P. and-then ! (local-of ! 21 refl refl) (and-then ! (local-of ! 33 refl refl) (no-more !))) (λ y ey iy.
         land ! (from ! (stop !)) (init ! 28 refl (bool-lawful 𝓤 H A W .typed y _ iy .0)) $
-        either-way ! (load ! (from ! (stop !)) (look ! 28 refl))
+        either-way ! (local-of ! 28 refl refl)
         (λ t.
         -- the entry read again, joined, and back
-        assigns ! (bin ! (load ! (from ! (stop !)) (look ! 30 refl)) (lit ! tt) (record { fits = in-bytes k (ek .1) })) (from ! (stop !)) (init ! 16 refl (tt, record { fits = in-bytes k (ek .1) })) $
-        assigns ! (addr ! (from ! (hop ! (look ! 34 refl) (fld ! refl (fld ! refl (stop !)))))) (from ! (stop !)) (init ! 14 refl (tt, tt)) $
-        assigns ! (bin ! (load ! (from ! (stop !)) (look ! 14 refl)) (load ! (from ! (stop !)) (look ! 16 refl)) tt) (from ! (stop !)) (init ! 12 refl (tt, tt)) $
+        sets ! (bin ! (local-of ! 30 refl refl) (lit ! tt) (record { fits = in-bytes k (ek .1) })) 16 refl refl (tt, record { fits = in-bytes k (ek .1) }) $
+        sets ! (addr ! (from ! (hop ! (look ! 34 refl) (fld ! refl (fld ! refl (stop !)))))) 14 refl refl (tt, tt) $
+        sets ! (bin ! (local-of ! 14 refl refl) (local-of ! 16 refl refl) tt) 12 refl refl (tt, tt) $
         rewrite ! 12 (λ (z : ℕ). ‵ (fat fullShare tyPtr l₁₂ 0 (vptr b z))) (sym (place-is entryBytes (o + bookAt + 0) k)) refl $
-        assigns ! (of-opd ! (load ! (from ! (hop ! (look ! 12 refl) (stop !))) (look-in ! 0 (low-item ! EN.the-type EN′.lowers (h .book .entries) (entries-of h _ ih) k (ek .1) blank (sub ! 0 refl (sub ! 1 refl (whole !))))))) (from ! (stop !)) (init ! 10 refl (low-typed EN.the-type EN′.lowers slots (h .book .entries) (entries-of h _ ih) k (ek .1) blank EN′.mir entry-typed)) $
+        sets ! (of-opd ! (load ! (from ! (hop ! (look ! 12 refl) (stop !))) (look-in ! 0 (low-item ! EN.the-type EN′.lowers (h .book .entries) (entries-of h _ ih) k (ek .1) blank (sub ! 0 refl (sub ! 1 refl (whole !))))))) 10 refl refl (low-typed EN.the-type EN′.lowers slots (h .book .entries) (entries-of h _ ih) k (ek .1) blank EN′.mir entry-typed) $
         rewrite ! 10 (λ (w : Val). ‵ (fat fullShare EN′.mir l₁₃ 0 w)) (List·getD-map EN′.lowered (h .book .entries) k blank) refl $
         asks ! fm (Join 𝓤 H A at-mem run) known-join (to-rises (entryAt h k)) (goes-rises (entryAt h k) (old-is k (ek .1) ih) is) EN.the-row EN′.lowered (EN′.lowers .val-is) (λ r. r ≡ joinedEntry (entryAt h k) s) _ (lasts join′.ended tt (entryAt h k, (s, tt))) (λ u. id⊢ 𝓤 _)
-        (and-then ! (load ! (from ! (stop !)) (look ! 11 refl)) (and-then ! (load ! (from ! (stop !)) (look ! 33 refl)) (no-more !))) (λ e ee ie.
+        (λ P. and-then ! (local-of ! 11 refl refl) (and-then ! (local-of ! 33 refl refl) (no-more !))) (λ e ee ie.
         land ! (from ! (stop !)) (init ! 18 refl (entry-typed e ie)) $
-        assigns ! (bin ! (load ! (from ! (stop !)) (look ! 30 refl)) (lit ! tt) (record { fits = in-bytes k (ek .1) })) (from ! (stop !)) (init ! 8 refl (tt, record { fits = in-bytes k (ek .1) })) $
-        assigns ! (addr ! (from ! (hop ! (look ! 34 refl) (fld ! refl (fld ! refl (stop !)))))) (from ! (stop !)) (init ! 6 refl (tt, tt)) $
-        assigns ! (bin ! (load ! (from ! (stop !)) (look ! 6 refl)) (load ! (from ! (stop !)) (look ! 8 refl)) tt) (from ! (stop !)) (init ! 4 refl (tt, tt)) $
+        sets ! (bin ! (local-of ! 30 refl refl) (lit ! tt) (record { fits = in-bytes k (ek .1) })) 8 refl refl (tt, record { fits = in-bytes k (ek .1) }) $
+        sets ! (addr ! (from ! (hop ! (look ! 34 refl) (fld ! refl (fld ! refl (stop !)))))) 6 refl refl (tt, tt) $
+        sets ! (bin ! (local-of ! 6 refl refl) (local-of ! 8 refl refl) tt) 4 refl refl (tt, tt) $
         rewrite ! 4 (λ (z : ℕ). ‵ (fat fullShare tyPtr l₁₆ 0 (vptr b z))) (sym (place-is entryBytes (o + bookAt + 0) k)) refl $
-        assigns-last ! (of-opd ! (load ! (from ! (stop !)) (look ! 18 refl))) (from ! (hop ! (look ! 4 refl) (stop !))) (store-in ! 0 (low-item ! EN.the-type EN′.lowers (h .book .entries) (entries-of h _ ih) k (ek .1) blank (sub ! 0 refl (sub ! 1 refl (whole !)))) (entry-typed e ie)) $
+        assigns-last ! (of-opd ! (local-of ! 18 refl refl)) (from ! (hop ! (look ! 4 refl) (stop !))) (store-in ! 0 (low-item ! EN.the-type EN′.lowers (h .book .entries) (entries-of h _ ih) k (ek .1) blank (sub ! 0 refl (sub ! 1 refl (whole !)))) (entry-typed e ie)) $
         exec ! C Λ (En l₀ l₁ l₂ l₃ l₄ l₅ l₆ l₇ l₈ l₉ l₁₀ l₁₁ l₁₂ l₁₃ l₁₄ l₁₅ l₁₆) body.t-8 (atRet (En l₀ l₁ l₂ l₃ l₄ l₅ l₆ l₇ l₈ l₉ l₁₀ l₁₁ l₁₂ l₁₃ l₁₄ l₁₅ l₁₆) Post) $
         rewrite ! 0 (λ (ws : List Val). ‵ (fat fullShare ST′.mir b o (stationVal (rowsVal (h .rows)) (bookVal (arrayVal ws))))) (map-set EN′.lowered (h .book .entries) k e) refl $
         forget ! 4 refl $ forget ! 6 refl $ forget ! 8 refl $ forget ! 10 refl $ forget ! 12 refl $ forget ! 14 refl $ forget ! 16 refl $ forget ! 18 refl $ forget ! 20 refl $ forget ! 22 refl $ forget ! 24 refl $ forget ! 26 refl $ forget ! 28 refl $ forget ! 30 refl $ forget ! 32 refl $ forget ! 34 refl $
