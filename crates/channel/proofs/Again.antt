@@ -21,13 +21,13 @@ use Rattle.strings.proofs.Flips.{left-encoded}
 use Rattle.words.specs.Calls.{numberIn}
 use Rattle.words.proofs.WordBits.{word-lt}
 use Rattle.strings.proofs.WordOf.{word-cut}
-use Rattle.hearing.specs.Hears.{plainOf, wholeOf, verdictIn}
+use Rattle.hearing.specs.Hears.{plainOf, wholeOf}
 use Rattle.hearing.proofs.Hearing.{whole-lt}
 use Rattle.channel.specs.declared.Row.{Row}
 use Rattle.channel.specs.declared.Offered.{Offered}
 use Rattle.channel.specs.Frame.{Frame, emptyFrame, withString, startOf, dataIn, isOfFrame, isHere, frameFor, afterString}
 use Rattle.channel.specs.Row.{stringIn, frameOf}
-use Rattle.channel.specs.Offers.{answerPaper, toldOf, offerTests, Offers}
+use Rattle.channel.specs.Offers.{answerPaper, toldTo, offerTests, Offers}
 use Rattle.channel.specs.History.{Call, Offer, Reset, frameAfter, heldAfter, Runs}
 use Rattle.channel.specs.Laws.{IsTaken, mIn, startAt, Passes, IsHeld, SameBits, Again}
 use Rattle.channel.proofs.Frames.{present-held}
@@ -62,7 +62,7 @@ module _ (row : Row) (epoch : ℕ) (s : List ℕ) (r : Offered) (o : Offers row 
   old = stringIn (row .strings) (mIn s)
 
   -- CONFLICT alone is left
-  nine-left : answerPaper (r .answer) ≡ answerOf (test 9 (not (eqb (dataIn old) (dataIn n))) ∷ []) (toldOf (frameOf row) epoch n (verdictIn s))
+  nine-left : answerPaper (r .answer) ≡ answerOf (test 9 (not (eqb (dataIn old) (dataIn n))) ∷ []) (toldTo (frameOf row) epoch s)
   nine-left =
       let here = is-present row epoch s (p .numbered) h in
       let e = h .0 in
@@ -76,7 +76,7 @@ module _ (row : Row) (epoch : ℕ) (s : List ℕ) (r : Offered) (o : Offers row 
       )
 
   abbrev nine : Bool → List ℕ
-  nine t = answerOf (test 9 (not t) ∷ []) (toldOf (frameOf row) epoch n (verdictIn s))
+  nine t = answerOf (test 9 (not t) ∷ []) (toldTo (frameOf row) epoch s)
 
   -- TAKEN EXACTLY WHERE BITS 80..9 ARE THE SAME, AND ELSE CONFLICT
   pub again : Again row s r

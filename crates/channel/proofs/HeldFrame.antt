@@ -110,7 +110,7 @@ first-said ts told = by (firstOf ts)
 
 -- a taken answer begins with 0, and no refusal does
 taken-said : (a : Answer) → eqb (getD (answerPaper a) 0 0) 0 ≡ isTaken a
-taken-said (TAKEN m v w) = refl
+taken-said (TAKEN m v w p) = refl
 taken-said (REFUSED q) = refusal-known q .1
 
 -- an offer is taken exactly where none of its tests fits

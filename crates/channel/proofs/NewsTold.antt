@@ -2,7 +2,7 @@
 -- Assumes nothing.
 use mathlib.Core.Path.{_≡_, refl, sym, ap, _∙_}
 use mathlib.Core.Bool.{Bool, true, false, _&&_}
-use mathlib.Core.List.{List, _∷_}
+use mathlib.Core.List.{List, [], _∷_, _++_}
 use Prim.Native.Nat.{ℕ, zero, suc, _-_, _/_, _%_, _^_, _≤_}
 use native.Mathlib.Omega.{arith}
 use borrow.Author.Tests.{eq-eqb, eqb-true, le-leb, leb-true}
@@ -49,9 +49,9 @@ low-four-all row e m l u = sym (low-digit (row .present) 4 (m - 1) (omega arith)
     fifteen (suc (suc (suc (suc (suc m))))) l u = absurd (omega arith)
 
 -- ---- the fifth number of a taken answer is its news
-fifth : (m : ℕ) (v : Verdict) (w : News) → getD (0 ∷ toldAs m v w) 4 0 ≡ newsNumber w
-fifth m Clean w = refl
-fifth m (Repaired i) w = refl
+fifth : (m : ℕ) (v : Verdict) (w : News) (b : ℕ) → getD (0 ∷ (toldAs m v w ++ (b ∷ []))) 4 0 ≡ newsNumber w
+fifth m Clean w b = refl
+fifth m (Repaired i) w b = refl
 
 module _ (row : Row) (epoch : ℕ) (s : List ℕ) (r : Offered) (long : length (row .strings) ≡ 165) (o : Offers row epoch s r) (t : IsTaken r) where
   abbrev n : ℕ
@@ -66,7 +66,7 @@ module _ (row : Row) (epoch : ℕ) (s : List ℕ) (r : Offered) (long : length (
 
   news-said : (here : Bool) → isHere (frameOf row) epoch n ≡ here → said r 4 ≡ newsNumber (newsBy here)
   news-said here e =
-      ap (λ (l : List ℕ). getD l 4 0) (taken-told row epoch s r o t) ∙ fifth (mIn s) (verdictIn s) (newsOf (frameOf row) epoch n)
+      ap (λ (l : List ℕ). getD l 4 0) (taken-told row epoch s r o t) ∙ fifth (mIn s) (verdictIn s) (newsOf (frameOf row) epoch n) _
       ∙ ap (λ (b : Bool). newsNumber (newsBy b)) e
 
   least : 1 ≤ mIn s

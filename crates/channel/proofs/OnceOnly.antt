@@ -2,7 +2,7 @@
 -- (offers-exactly).
 -- Assumes nothing.
 use mathlib.Core.Path.{_≡_, refl, sym, ap, ap₂, _∙_}
-use mathlib.Core.List.{List, []}
+use mathlib.Core.List.{List, [], _∷_, _++_}
 use mathlib.Core.Bool.{Bool, true, false, not, _&&_}
 use Prim.Native.Nat.{ℕ, zero, suc}
 use native.Mathlib.Omega.{arith}
@@ -21,12 +21,15 @@ use Rattle.channel.specs.declared.Answer.the-variants.{Taken, Refused}
 use Rattle.channel.specs.declared.Row.{Row}
 use Rattle.channel.specs.declared.Offered.{Offered}
 use Rattle.words.specs.Calls.{numberIn}
-use Rattle.strings.specs.Hamming.{ruling}
+use Rattle.strings.specs.Number.{numberOf}
+use Rattle.relative.specs.declared.Polarity.{Polarity}
+use Rattle.relative.specs.Polarity.{polarityOf}
+use Rattle.relative.proofs.RelativeCode.{polarity-told}
 use Rattle.channel.specs.Frame.{Frame, withString, startOf, isHere, frameFor, isComplete, isReadable, newsAt, newsOf}
 use Rattle.tallies.specs.Tallies.Outcome.{Taken as TAKEN}
 use Rattle.channel.specs.Row.{frameOf, heldWith, counted}
-use Rattle.hearing.specs.Hears.{verdictOf, plainOf, wholeOf}
-use Rattle.channel.specs.Offers.{toldOf, answerPaper, offerTests, Offers, takenRow, isTaken, isNew, isStored, storesIt}
+use Rattle.hearing.specs.Hears.{wholeOf, verdictIn}
+use Rattle.channel.specs.Offers.{toldOf, toldTo, answerPaper, offerTests, Offers, takenRow, isTaken, isNew, isStored, storesIt}
 use Rattle.channel.proofs.Answers.{answer-same}
 use Rattle.channel.proofs.HeldFrame.{offered-is, taken-exactly}
 
@@ -67,20 +70,21 @@ stored-said row epoch s r o = by (r .answer) (firstOf tests) refl (o .answer)
     tests = offerTests (frameOf row) epoch s
 
     by : (a : Answer) (k : ℕ) → firstOf tests ≡ k
-        → answerPaper a ≡ saidBy k (placeOf tests) (toldOf (frameOf row) epoch (wholeOf s) (verdictOf (ruling (plainOf s))))
+        → answerPaper a ≡ saidBy k (placeOf tests) (toldTo (frameOf row) epoch s)
         → isStored a ≡ (eqb k 0 && not (isHere (frameOf row) epoch (wholeOf s)))
     by a zero e q =
         let n = wholeOf s in
-        let v = verdictOf (ruling (plainOf s)) in
-        ap isStored (answer-same a (Taken (numberIn n) v (newsOf (frameOf row) epoch n)) q) ∙ new-of (frameOf row) epoch n
-    by (Taken m v w) (suc k) e q = let z : _≡_ {A = ℕ} 0 (suc k) = ap (λ (l : List ℕ). getD l 0 0) q in absurd (omega arith)
+        let told = toldOf (frameOf row) epoch n (verdictIn s) in
+        let p = q ∙ ap (λ (b : ℕ). 0 ∷ (told ++ (b ∷ []))) (sym (polarity-told (numberOf s))) in
+        ap isStored (answer-same a (Taken (numberIn n) (verdictIn s) (newsOf (frameOf row) epoch n) (polarityOf (numberOf s))) p) ∙ new-of (frameOf row) epoch n
+    by (Taken m v w t) (suc k) e q = let z : _≡_ {A = ℕ} 0 (suc k) = ap (λ (l : List ℕ). getD l 0 0) q in absurd (omega arith)
     by (Refused p) (suc k) e q = ap (λ (t : Bool). t && not (isHere (frameOf row) epoch (wholeOf s))) (sym (ne-eqb (suc k) 0 (λ z. omega arith)))
 
 -- ---- "ONE ALREADY HELD CHANGES ONLY TALLIES"
-pub held-only : (row : Row) (epoch : ℕ) (s : List ℕ) (r : Offered) (m : ℕ) (v : Verdict) → Offers row epoch s r → r .answer ≡ Taken m v AlreadyHeld
-    → r .row ≡ counted (TAKEN (verdictOf (ruling (plainOf s)))) row
+pub held-only : (row : Row) (epoch : ℕ) (s : List ℕ) (r : Offered) (m : ℕ) (v : Verdict) (p : Polarity) → Offers row epoch s r
+    → r .answer ≡ Taken m v AlreadyHeld p → r .row ≡ counted (TAKEN (verdictIn s)) row
 unfolding takenRow heldWith
-held-only row epoch s r m v o e =
+held-only row epoch s r m v p o e =
     let t : eqb (firstOf (offerTests (frameOf row) epoch s)) 0 ≡ true = sym (taken-exactly row epoch s r o) ∙ ap isTaken e in
     let n : not (isHere (frameOf row) epoch (wholeOf s)) ≡ false =
     sym (ap (λ (b : Bool). b && not (isHere (frameOf row) epoch (wholeOf s))) t) ∙ sym (stored-said row epoch s r o) ∙ ap isStored e

@@ -1,14 +1,14 @@
 -- An offer, test by test: what it leaves where some test fits and where none does; what a fate and what is heard come to; and the row of it all.
 -- Assumes nothing.
 use mathlib.Core.Path.{_≡_, refl, sym, ap, ap₂, subst, _∙_}
-use mathlib.Core.Bool.{Bool, true, false, _&&_}
+use mathlib.Core.Bool.{Bool, true, false, _&&_, true≢false}
 use mathlib.Core.List.{List, [], _∷_, _++_}
 use Prim.Native.Nat.{ℕ, zero, suc, _≤_}
 use native.Mathlib.Omega.{arith}
 use borrow.Author.Tests.{ne-eqb, eqb-true, eqb-false}
 use lib.Arith.{lt-of-le-ne}
 use lib.Dec.{eqb}
-use lib.ListN.{getD, drop}
+use lib.ListN.{length, getD, drop}
 use Rattle.strings.specs.Pick.{pick}
 use Rattle.strings.specs.declared.Refusal.{Refusal}
 use Rattle.strings.specs.declared.Verdict.{Verdict}
@@ -24,8 +24,8 @@ use Rattle.channel.specs.declared.Fate.{Fate}
 use Rattle.channel.specs.declared.Fate.the-variants.{Refused as No, Held as Here, New}
 use Rattle.channel.specs.declared.News.{News}
 use Rattle.channel.specs.declared.News.the-variants.{AlreadyHeld}
-use Rattle.channel.specs.declared.Answer.{Answer}
-use Rattle.channel.specs.declared.Answer.the-variants.{Taken, Refused}
+use Rattle.channel.specs.declared.Placed.{Placed}
+use Rattle.channel.specs.declared.Placed.the-variants.{Taken, Refused}
 use Rattle.channel.specs.declared.Row.{Row}
 use Rattle.channel.specs.declared.Offered.{Offered}
 use Rattle.tallies.specs.Tallies.{Outcome}
@@ -34,12 +34,16 @@ use Rattle.channel.specs.Frame.{Frame, withString, startOf, isOfFrame, i
 use Rattle.immediate.specs.Kept.{recordBy}
 use Rattle.channel.specs.Row.{holdsFrame, Held, held, frameIn, heldOf, frameOf, newFrame, bytesBy, heldFor, stored, heldWith, holding, isBuilt, counted}
 use Rattle.hearing.specs.Hears.{plainOf, wholeOf, hearTests, Hears, verdictIn}
-use Rattle.channel.specs.Offers.{answerPaper, toldAs, toldOf, Settles, Places, StoresIn, fatePaper, fateTold, FateBy, offerTests, OffersApart, takenRow, Offers, outcomeOf, tellsRecord}
+use Rattle.channel.specs.Offers.{placedPaper, answerPaper, toldWith, isPlaced, toldAs, Settles, Places, StoresIn, fatePaper, fateTold, FateBy, offerTests, OffersApart, takenRow, Offers, outcomeOf, tellsRecord}
 use Rattle.channel.proofs.Frames.{held-for}
+use Rattle.channel.proofs.HeldFrame.{first-said}
 use Rattle.strings.proofs.Answer.{not-taken}
+use Rattle.strings.proofs.Shape.{shaped}
 use Rattle.strings.proofs.Tests.{past-first}
 use Rattle.strings.proofs.SoundTests.{IsSound}
-use Rattle.channel.proofs.Answers.{counts-by, tells-by}
+use Rattle.relative.specs.Polarity.{polarityOf}
+use Rattle.relative.proofs.RelativeCode.{polarity-told}
+use Rattle.channel.proofs.Answers.{told-with, counts-by, tells-by}
 use Rattle.hearing.proofs.Hearing.{none-fits, heard-then, heard-number, heard-shape, heard-verdict}
 
 -- ---- test by test
@@ -57,12 +61,12 @@ module _ {told : List ℕ} {h taken : Held} (q : Refusal) (before : List ℕ) wh
   refuses (t ∷ ts) us e = first-fits (t .number) (t .place) (t .fits) ts (ts ++ us) (refuses ts us) e
 
 -- a string that is heard: the tests of its place decide
-settles-heard : {told : List ℕ} {h taken : Held} {a : Answer} {h′ : Held} {ts : List Test} (s : List ℕ) → misshapen s ≡ false → IsSound (plainOf s)
+settles-heard : {told : List ℕ} {h taken : Held} {a : Placed} {h′ : Held} {ts : List Test} (s : List ℕ) → misshapen s ≡ false → IsSound (plainOf s)
     → Settles ts told h taken a h′ → Settles (hearTests s ++ ts) told h taken a h′
 settles-heard {ts} s e i k = let p = heard-then s ts e i in record { answer = rw (p .0, p .1) (k .answer); left = rw (p .0) (k .left) }
 
 -- no test fits
-takes : {told : List ℕ} {h taken : Held} {a : Answer} {h′ : Held} (ts : List Test) → firstOf ts ≡ 0 → answerPaper a ≡ 0 ∷ told → h′ ≡ taken
+takes : {told : List ℕ} {h taken : Held} {a : Placed} {h′ : Held} (ts : List Test) → firstOf ts ≡ 0 → placedPaper a ≡ 0 ∷ told → h′ ≡ taken
     → Settles ts told h taken a h′
 takes {told} {h} {taken} ts z e f =
     record { answer = e ∙ ap (λ (k : ℕ). saidBy k (placeOf ts) told) (sym z); left = f ∙ ap (λ (k : ℕ). pick (eqb k 0) taken h) (sym z) }
@@ -123,7 +127,7 @@ module _ (h : Held) (epoch n : ℕ) (v : Verdict) (r : Fate) (f : FateBy (placeT
         lt-of-le-ne (omega arith) (λ q. z (sym q))
 
     -- it is stored in the frame that it joins
-    pub placed-new : (a : Answer) (h′ : Held) → StoresIn (held start mask (bytesBy mask (h .bytes))) n v a h′ → Places h epoch n v a h′
+    pub placed-new : (a : Placed) (h′ : Held) → StoresIn (held start mask (bytesBy mask (h .bytes))) n v a h′ → Places h epoch n v a h′
     unfolding heldWith
     placed-new a h′ s =
         let o = startOf epoch n in
@@ -132,7 +136,7 @@ module _ (h : Held) (epoch n : ℕ) (v : Verdict) (r : Fate) (f : FateBy (placeT
         in
         let k = subst (λ (x : Held). StoresIn x n v a h′) i s in
         takes tests (facts .0 .0)
-        (ap answerPaper (k .answer)
+        (ap placedPaper (k .answer)
         ∙ ap (λ (x : Frame). 0 ∷ toldAs (numberIn n) v (newsAt (withString x n) (numberIn n))) (held-for h o)
         ∙ ap (λ (t : Bool). 0 ∷ toldAs (numberIn n) v (pick t AlreadyHeld (newsAt (withString (frameFor (frameIn h) o) n) (numberIn n)))) (sym (facts .0 .1)))
         (k .left ∙ ap (λ (t : Bool). pick t h (stored (heldFor h o) n)) (sym (facts .0 .1)))
@@ -147,13 +151,21 @@ module _ (h : Held) (epoch : ℕ) (s out out′ : List ℕ) (c : Checked) (a : H
   pub heard-shaped : (v : Verdict) → c ≡ Sound v → misshapen out′ ≡ false
   heard-shaped v e = heard-shape s out out′ v (subst (λ (y : Checked). Hears s out y out′) e a)
 
-  pub heard-on : (v : Verdict) → c ≡ Sound v → (x : Answer) (h′ : Held) → Places h epoch (numberOf out′) v x h′ → OffersApart h epoch s x h′
+  pub heard-on : (v : Verdict) → c ≡ Sound v → (x : Placed) (h′ : Held) → Places h epoch (numberOf out′) v x h′ → OffersApart h epoch s x h′
   heard-on v e x h′ p =
       let b : Hears s out (Sound v) out′ = subst (λ (y : Checked). Hears s out y out′) e a in
       let n = none-fits s out out′ v b in
       settles-heard s (n .0) (n .1)
       (subst (λ (w : Verdict). Places h epoch (wholeOf s) w x h′) (heard-verdict s out out′ v b)
       (subst (λ (k : ℕ). Places h epoch k v x h′) (heard-number s out out′ v b) p))
+
+-- what is taken has eleven bytes
+pub placed-whole : (h : Held) (epoch : ℕ) (s : List ℕ) (a : Placed) (h′ : Held) → OffersApart h epoch s a h′ → isPlaced a ≡ true → length s ≡ 11
+placed-whole h epoch s (Taken m v w) h′ o e =
+    let ts = offerTests (frameIn h) epoch s in
+    let z : _≡_ {A = ℕ} 0 (firstOf ts) = ap (λ (l : List ℕ). getD l 0 0) (o .answer) ∙ first-said ts _ in
+    shaped s (past-first 1 (misshapen s) (drop 1 ts) (sym z) .0) .0
+placed-whole h epoch s (Refused q) h′ o e = absurd (true≢false (sym e))
 
 -- ---- the row of it all: what is held, the record and the tallies by the answer
 abbrev pub rowBy : Row → Held → Bool → Outcome → Row
@@ -172,17 +184,19 @@ module _ (row : Row) (epoch : ℕ) (s : List ℕ) where
   row-by true = refl
   row-by false = refl
 
-  pub offers-by : (h′ : Held) (r : Offered) → OffersApart (heldOf row) epoch s (r .answer) h′
-      → r .row ≡ rowBy row h′ (tellsRecord (r .answer)) (outcomeOf (r .answer)) → Offers row epoch s r
+  pub offers-by : (h′ : Held) (said : Placed) (r : Offered) → OffersApart (heldOf row) epoch s said h′ → r .answer ≡ toldWith said (polarityOf (numberOf s))
+      → r .row ≡ rowBy row h′ (tellsRecord said) (outcomeOf (r .answer)) → Offers row epoch s r
   unfolding Offers
-  offers-by h′ r a e =
+  offers-by h′ said r a t e =
       let k = firstOf theTests in
       let place = placeOf theTests in
       let m = numberIn (wholeOf s) in
+      let p = polarityOf (numberOf s) in
+      let says = ap answerPaper t ∙ told-with said p k place _ (a .answer) in
       record {
-        answer = a .answer;
+        answer = says ∙ ap (λ (b : ℕ). saidBy k place (toldAs m (verdictIn s) theNews ++ (b ∷ []))) (polarity-told (numberOf s));
         left =
-            e ∙ ap₂ (λ (x : Bool) (y : Outcome). rowBy row h′ x y) (tells-by place m (verdictIn s) theNews (r .answer) k (a .answer)) (counts-by place m (verdictIn s) theNews (r .answer) k (a .answer))
+            e ∙ ap₂ (λ (x : Bool) (y : Outcome). rowBy row h′ x y) (tells-by place m (verdictIn s) theNews said k (a .answer)) (counts-by place m (verdictIn s) theNews p (r .answer) k says)
             ∙ ap (λ (x : Held). rowBy row x (pick (eqb k 0) (isBuilt theNews) false) (pick (eqb k 0) (TAKEN (verdictIn s)) REFUSED)) (a .left)
             ∙ row-by (eqb k 0);
       }

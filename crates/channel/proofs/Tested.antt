@@ -20,12 +20,12 @@ use Rattle.strings.proofs.Tests.{past-first}
 use Rattle.strings.proofs.SoundTests.{IsSound}
 use Rattle.words.specs.Calls.{numberIn}
 use Rattle.strings.proofs.Below.{both}
-use Rattle.hearing.specs.Hears.{plainOf, wholeOf, verdictIn}
+use Rattle.hearing.specs.Hears.{plainOf, wholeOf}
 use Rattle.channel.specs.declared.Row.{Row}
 use Rattle.channel.specs.declared.Offered.{Offered}
 use Rattle.channel.specs.Frame.{Frame, isOfFrame, isHere, placeTests}
 use Rattle.channel.specs.Row.{isPresent, holdsFrame, frameOf}
-use Rattle.channel.specs.Offers.{answerPaper, toldOf, offerTests, Offers}
+use Rattle.channel.specs.Offers.{answerPaper, toldTo, offerTests, Offers}
 use Rattle.channel.specs.Laws.{said, IsTaken, mIn, startAt, maskBit, HoldsFrame, Passes, IsHeld}
 use Rattle.channel.proofs.Frames.{number-small, present-held}
 use Rattle.hearing.proofs.Hearing.{heard-first, heard-then}
@@ -179,7 +179,7 @@ module _ (row : Row) (epoch : ℕ) (s : List ℕ) (r : Offered) (o : Offers row 
   taken-passes t = all-pass frame epoch s (taken-first t)
 
   -- what passed is answered by 7 to 9
-  pub passed-said : Passes epoch s → answerPaper (r .answer) ≡ answerOf (lastThree frame epoch n) (toldOf frame epoch n (verdictIn s))
+  pub passed-said : Passes epoch s → answerPaper (r .answer) ≡ answerOf (lastThree frame epoch n) (toldTo frame epoch s)
   passed-said p =
       let q = past epoch s p in
       let h = heard-then s (placeTests frame epoch n) (q .shape) (q .sound) in
@@ -190,11 +190,11 @@ module _ (row : Row) (epoch : ℕ) (s : List ℕ) (r : Offered) (o : Offers row 
       let q = past epoch s p in
       first-is ∙ heard-then s (placeTests frame epoch n) (q .shape) (q .sound) .0 ∙ rw (q .number, q .early)
 
-  -- what is taken tells m, the verdict and the news
-  pub taken-told : IsTaken r → answerPaper (r .answer) ≡ 0 ∷ toldOf frame epoch n (verdictIn s)
+  -- what is taken tells m, the verdict, the news and the polarity
+  pub taken-told : IsTaken r → answerPaper (r .answer) ≡ 0 ∷ toldTo frame epoch s
   taken-told t =
       let tests = offerTests frame epoch s in
-      said-by row epoch s r o ∙ ap (λ (k : ℕ). saidBy k (placeOf tests) (toldOf frame epoch n (verdictIn s))) (taken-first t)
+      said-by row epoch s r o ∙ ap (λ (k : ℕ). saidBy k (placeOf tests) (toldTo frame epoch s)) (taken-first t)
 
   pub taken-test : IsTaken r → eqb (firstOf (offerTests frame epoch s)) 0 ≡ true
   taken-test t = eq-eqb (firstOf (offerTests frame epoch s)) 0 (taken-first t)

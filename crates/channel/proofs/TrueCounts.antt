@@ -3,7 +3,7 @@
 -- Assumes nothing.
 use mathlib.Core.Path.{_≡_, refl, sym, ap, ap₂, _∙_}
 use mathlib.Core.Bool.{Bool, true, false}
-use mathlib.Core.List.{List}
+use mathlib.Core.List.{List, [], _∷_, _++_}
 use Prim.Native.Nat.{ℕ, zero, suc}
 use native.Mathlib.Omega.{arith}
 use borrow.Author.Tests.{ne-eqb}
@@ -27,10 +27,10 @@ use Rattle.tallies.proofs.Counts.{counts, true-counts}
 use Rattle.channel.proofs.HeldFrame.{offered-is, held-is}
 
 -- ---- what an answer counts as
-counts-as : (k : ℕ) (place : List ℕ) (m : ℕ) (v : Verdict) (w : News) → countsAs (saidBy k place (toldAs m v w)) ≡ pick (eqb k 0) (Taken v) Refused
-counts-as zero place m Clean w = refl
-counts-as zero place m (Repaired i) w = refl
-counts-as (suc k) place m v w = rw (ne-eqb (suc k) 0 (λ z. omega arith))
+counts-as : (k : ℕ) (place : List ℕ) (m : ℕ) (v : Verdict) (w : News) (b : ℕ) → countsAs (saidBy k place (toldAs m v w ++ (b ∷ []))) ≡ pick (eqb k 0) (Taken v) Refused
+counts-as zero place m Clean w b = refl
+counts-as zero place m (Repaired i) w b = refl
+counts-as (suc k) place m v w b = rw (ne-eqb (suc k) 0 (λ z. omega arith))
 
 -- ---- the tallies move by what the answer counts as, in any row
 pub tallies-after : (row : Row) (epoch : ℕ) (s : List ℕ) → offeredRow row epoch s .tallies ≡ afterOffer (countsAs (saidTo (frameOf row) epoch s)) (row .tallies)
@@ -38,7 +38,7 @@ unfolding counted takenRow
 tallies-after row epoch s =
     let tests = offerTests (frameOf row) epoch s in
     ap₂ (λ (o : Outcome) (t : Tallies). afterOffer o t)
-    (sym (counts-as (firstOf tests) (placeOf tests) (numberIn (wholeOf s)) (verdictIn s) (newsOf (frameOf row) epoch (wholeOf s)))) (by (eqb (firstOf tests) 0))
+    (sym (counts-as (firstOf tests) (placeOf tests) (numberIn (wholeOf s)) (verdictIn s) (newsOf (frameOf row) epoch (wholeOf s)) _)) (by (eqb (firstOf tests) 0))
   where
     -- nothing before counts
     by : (t : Bool) → pick t (takenRow row epoch (wholeOf s)) row .tallies ≡ row .tallies

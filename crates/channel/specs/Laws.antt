@@ -11,9 +11,13 @@ use Rattle.strings.specs.Number.{numberOf, bitOf, wordOf, stringBytes}
 use Rattle.strings.specs.Calls.{soundTests}
 use Rattle.strings.specs.Hamming.{ruling, isDamaged}
 use Rattle.strings.specs.Numbers.{numbersOf}
+use Rattle.relative.specs.Relative.{inverse}
+use Rattle.relative.specs.Polarity.{turned}
 use Rattle.immediate.specs.Ranges.{InRange}
 use Rattle.hearing.specs.Hears.{plainOf, wholeOf}
 use Rattle.channel.specs.declared.Row.{Row}
+use Rattle.channel.specs.declared.Answer.{Answer}
+use Rattle.channel.specs.declared.Answer.the-variants.{Taken, Refused}
 use Rattle.channel.specs.declared.Offered.{Offered}
 use Rattle.channel.specs.Frame.{Frame}
 use Rattle.channel.specs.Offers.{answerPaper, offerTests, Offers}
@@ -21,7 +25,7 @@ use Rattle.channel.specs.History.{Call, Runs}
 
 -- ---- the numbers
 -- an answer's numbers, counted from 0. The first is 0 where the offer is taken, and else the number that says no; number 4 of one that is taken is its
--- news: 0 already held, 1 kept, 2 record built, 3 record out of range
+-- news: 0 already held, 1 kept, 2 record built, 3 record out of range; and number 5 the polarity, 0 upright, 1 inverted
 abbrev pub said : Offered → ℕ → ℕ
 said r i = getD (answerPaper (r .answer)) i 0
 
@@ -110,6 +114,17 @@ pub record NewsTold (row : Row) (epoch : ℕ) (s : List ℕ) (r : Offered) : Typ
   pub out-of-range : (IsHeld row epoch s → ⊥) → Completes s r → (InRange (r .row .strings) → ⊥) → said r 4 ≡ 3
   pub kept : (IsHeld row epoch s → ⊥) → (Completes s r → ⊥) → said r 4 ≡ 1
 
+-- ---- "A string and its inverse now answer alike except in this field": the same refusal; or taken with the same m, verdict and news, and with the other
+-- polarity
+abbrev pub otherWay : Answer → Answer
+otherWay (Taken m v w p) = Taken m v w (turned p)
+otherWay (Refused why) = Refused why
+
+-- what the string was answered and left, and what the same with all 85 symbols inverted: "Station contents .. do not depend on it"
+pub record EitherWay (r inverted : Offered) : Type 0 where
+  pub answer : inverted .answer ≡ otherWay (r .answer)
+  pub left : inverted .row ≡ r .row
+
 -- ---- of any row of fifteen strings, and any bytes at any epoch
 pub record OfferLaws (row : Row) (epoch : ℕ) (s : List ℕ) (r : Offered) : Type 0 where
   -- whatever is taken has eleven bytes and padding 0, and passed the rest of 2 to 6
@@ -129,6 +144,9 @@ pub record RowLaws (row : Row) : Type 0 where
 pub record AllLaws : Type 0 where
   pub offers : (row : Row) (epoch : ℕ) (s : List ℕ) (r : Offered) → length (row .strings) ≡ 165 → Offers row epoch s r → OfferLaws row epoch s r
   pub rows : (cs : List Call) (row : Row) → Runs cs row → RowLaws row
+  -- of any row, and any string of eleven bytes with padding 0
+  pub either-way : (row : Row) (epoch x : ℕ) (r q : Offered) → x < 2 ^ 85 → Offers row epoch (stringBytes x) r → Offers row epoch (stringBytes (inverse x)) q
+      → EitherWay r q
 
 -- ---- "An offer is tested in the order 1 to 9": here from 2 on, with 31, 32, 33 "all in 3's position"
 pub test-order : (f : Frame) (epoch : ℕ) (s : List ℕ)

@@ -8,11 +8,16 @@ use lib.Dec.{eqb}
 use Rattle.strings.specs.Pick.{pick}
 use Rattle.strings.specs.declared.Refusal.the-variants.{Conflict}
 use Rattle.strings.specs.declared.Verdict.{Verdict}
+use Rattle.strings.specs.Number.{numberOf}
 use Rattle.strings.specs.Numbers.{refusalPaper, verdictPaper, Test, firstOf, answerOf}
 use Rattle.words.specs.Calls.{numberIn}
+use Rattle.relative.specs.declared.Polarity.{Polarity}
+use Rattle.relative.specs.Polarity.{firstSymbol, polarityNumber}
 use Rattle.hearing.specs.Hears.{wholeOf, verdictIn, hearTests}
 use Rattle.channel.specs.declared.News.{News}
 use Rattle.channel.specs.declared.News.the-variants.{AlreadyHeld, Kept, RecordBuilt, RecordOutOfRange}
+use Rattle.channel.specs.declared.Placed.{Placed}
+use Rattle.channel.specs.declared.Placed.the-variants.{Taken as IsPlaced, Refused as NotPlaced}
 use Rattle.channel.specs.declared.Answer.{Answer}
 use Rattle.channel.specs.declared.Answer.the-variants.{Taken, Refused}
 use Rattle.channel.specs.declared.Fate.{Fate}
@@ -37,10 +42,29 @@ newsNumber RecordOutOfRange = 3
 abbrev pub toldAs : ℕ → Verdict → News → List ℕ
 toldAs m v w = m ∷ (verdictPaper v ++ (newsNumber w ∷ []))
 
--- 0 and what a taken offer tells; or the number that says no
+-- 0 and what is told of a plain string that is taken; or the number that says no
+abbrev pub placedPaper : Placed → List ℕ
+placedPaper (IsPlaced m v w) = 0 ∷ toldAs m v w
+placedPaper (NotPlaced r) = refusalPaper r
+
+-- "The offer's taken answer carries it": the polarity of the symbols, 0 upright or 1 inverted, is told last
 abbrev pub answerPaper : Answer → List ℕ
-answerPaper (Taken m v w) = 0 ∷ toldAs m v w
+answerPaper (Taken m v w p) = 0 ∷ (toldAs m v w ++ (polarityNumber p ∷ []))
 answerPaper (Refused r) = refusalPaper r
+
+-- the answer to a plain string, told with the polarity of the symbols that it was read from
+abbrev pub toldWith : Placed → Polarity → Answer
+toldWith (IsPlaced m v w) p = Taken m v w p
+toldWith (NotPlaced r) p = Refused r
+
+abbrev pub isPlaced : Placed → Bool
+isPlaced (IsPlaced m v w) = true
+isPlaced (NotPlaced r) = false
+
+-- whether it is told that a record is built
+abbrev pub tellsRecord : Placed → Bool
+tellsRecord (IsPlaced m v w) = isBuilt w
+tellsRecord (NotPlaced r) = false
 
 -- ---- the tests are tried in order; "offers refused with 2..9 add to the tallies offered and refused" and change nothing else
 abbrev pub settled {ℓ} : {A : Type ℓ} → List Test → A → A → A
@@ -48,8 +72,8 @@ settled tests a taken = pick (eqb (firstOf tests) 0) taken a
 
 -- an offer to what is held that tries these tests in this order: its answer in the paper's numbers, and what is held after it, where a taken
 -- string tells `told` and leaves `taken`
-pub record Settles (tests : List Test) (told : List ℕ) (h taken : Held) (a : Answer) (h′ : Held) : Type 0 where
-  pub answer : answerPaper a ≡ answerOf tests told
+pub record Settles (tests : List Test) (told : List ℕ) (h taken : Held) (a : Placed) (h′ : Held) : Type 0 where
+  pub answer : placedPaper a ≡ answerOf tests told
   pub left : h′ ≡ settled tests h taken
 
 -- ---- a string that the check left, with its verdict, placed at an epoch
@@ -57,16 +81,16 @@ abbrev pub toldOf : Frame → ℕ → ℕ → Verdict → List ℕ
 toldOf f epoch n v = toldAs (numberIn n) v (newsOf f epoch n)
 
 -- after these tests
-abbrev pub PlacesBy : List Test → Held → ℕ → ℕ → Verdict → Answer → Held → Type 0
+abbrev pub PlacesBy : List Test → Held → ℕ → ℕ → Verdict → Placed → Held → Type 0
 PlacesBy tests h epoch n v a h′ = Settles tests (toldOf (frameIn h) epoch n v) h (heldWith h epoch n) a h′
 
 -- 5 to 9
-abbrev pub Places : Held → ℕ → ℕ → Verdict → Answer → Held → Type 0
+abbrev pub Places : Held → ℕ → ℕ → Verdict → Placed → Held → Type 0
 Places h epoch n v a h′ = PlacesBy (placeTests (frameIn h) epoch n) h epoch n v a h′
 
 -- stored where it is new: the answer and what is held
-pub record StoresIn (h : Held) (n : ℕ) (v : Verdict) (a : Answer) (h′ : Held) : Type 0 where
-  pub answer : a ≡ Taken (numberIn n) v (newsAt (withString (frameIn h) n) (numberIn n))
+pub record StoresIn (h : Held) (n : ℕ) (v : Verdict) (a : Placed) (h′ : Held) : Type 0 where
+  pub answer : a ≡ IsPlaced (numberIn n) v (newsAt (withString (frameIn h) n) (numberIn n))
   pub left : h′ ≡ stored h n
 
 -- ---- the fate of such a string in numbers: the number that says no; 0 0, already held; 0 1, new, with the start of its frame and the mask that this has
@@ -93,8 +117,8 @@ fateWithin h n =
 abbrev pub offerTests : Frame → ℕ → List ℕ → List Test
 offerTests f epoch s = hearTests s ++ placeTests f epoch (wholeOf s)
 
--- what is said, and what is held after it
-abbrev pub OffersApart : Held → ℕ → List ℕ → Answer → Held → Type 0
+-- what is said of its plain string, and what is held after it
+abbrev pub OffersApart : Held → ℕ → List ℕ → Placed → Held → Type 0
 OffersApart h epoch s a h′ = PlacesBy (offerTests (frameIn h) epoch s) h epoch (wholeOf s) (verdictIn s) a h′
 
 -- ---- the row that it leaves
@@ -117,22 +141,21 @@ pub record Leaves (said : List ℕ) (next : Row) (r : Offered) : Type 0 where
   pub answer : answerPaper (r .answer) ≡ said
   pub left : r .row ≡ next
 
+-- what a taken offer tells: of the string that was heard, and last its first symbol
+abbrev pub toldTo : Frame → ℕ → List ℕ → List ℕ
+toldTo f epoch s = toldOf f epoch (wholeOf s) (verdictIn s) ++ (firstSymbol (numberOf s) ∷ [])
+
 unfoldable pub Offers : Row → ℕ → List ℕ → Offered → Type 0
-Offers row epoch s r =
-    Leaves (answerOf (offerTests (frameOf row) epoch s) (toldOf (frameOf row) epoch (wholeOf s) (verdictIn s))) (offeredRow row epoch s) r
+Offers row epoch s r = Leaves (answerOf (offerTests (frameOf row) epoch s) (toldTo (frameOf row) epoch s)) (offeredRow row epoch s) r
 
--- what an answer counts as, and whether it tells that a record is built
+-- what an answer counts as
 abbrev pub outcomeOf : Answer → Outcome
-outcomeOf (Taken m v w) = TAKEN v
+outcomeOf (Taken m v w p) = TAKEN v
 outcomeOf (Refused r) = REFUSED
-
-abbrev pub tellsRecord : Answer → Bool
-tellsRecord (Taken m v w) = isBuilt w
-tellsRecord (Refused r) = false
 
 -- ---- "a refused string changes nothing but its channel's tallies of strings offered and refused"
 abbrev pub isTaken : Answer → Bool
-isTaken (Taken m v w) = true
+isTaken (Taken m v w p) = true
 isTaken (Refused r) = false
 
 pub record OnlyCounted (row row′ : Row) : Type 0 where
@@ -153,7 +176,7 @@ isNew RecordBuilt = true
 isNew RecordOutOfRange = true
 
 abbrev pub isStored : Answer → Bool
-isStored (Taken m v w) = isNew w
+isStored (Taken m v w p) = isNew w
 isStored (Refused r) = false
 
 -- so where it is taken, and its string was not held

@@ -1,6 +1,6 @@
 // What a string newly stored tells: whether strings 1 to 4 became the immediate record.
-use crate::Answer;
 use crate::News;
+use crate::Placed;
 use immediate::are_good;
 ghost use mathlib.Core.Path.{_≡_};
 ghost use lib.ListN.{length};
@@ -26,13 +26,13 @@ pub fn news_at(mask: u16, all: &[u8], m: u8) -> News
     }
 }
 
-// Whether an answer tells that a record is built.
-pub fn is_built(a: Answer) -> bool
+// Whether it is told of a plain string that a record is built.
+pub fn is_built(a: Placed) -> bool
     ensures { λ r. ⌜ r ≡ tellsRecord a ⌝ }
 {
     match a {
-        Answer::Refused(_) => false,
-        Answer::Taken(_, _, news) => is_record(news),
+        Placed::Refused(_) => false,
+        Placed::Taken(_, _, news) => is_record(news),
     }
 }
 

@@ -7,6 +7,7 @@ mod rows;
 use immediate::Immediate;
 pub use offering::is_stored;
 pub use offering::offer;
+use relative::Polarity;
 pub use rows::empty_row;
 pub use rows::has_string;
 use strings::Refusal;
@@ -40,10 +41,16 @@ pub enum Fate {
     New(u32, u16),
 }
 
-// An offer's answer, and the numbers of the row after it.
+// What is said of a plain string: m, the check's verdict and the news; or why not.
+pub enum Placed {
+    Taken(u8, Verdict, News),
+    Refused(Refusal),
+}
+
+// What is said of a string, and the numbers of the row after it.
 pub struct Moved {
     pub head: Head,
-    pub answer: Answer,
+    pub answer: Placed,
 }
 
 // What a taken string brought.
@@ -54,9 +61,10 @@ pub enum News {
     RecordOutOfRange,
 }
 
-// The answer to an offer: m, the check's verdict and the news; or why not.
+// The answer to an offer: m, the check's verdict, the news, and the polarity of the symbols; or why
+// not.
 pub enum Answer {
-    Taken(u8, Verdict, News),
+    Taken(u8, Verdict, News, Polarity),
     Refused(Refusal),
 }
 

@@ -37,7 +37,7 @@ fn main() {
 
 fn tell(answer: Answer) {
     match answer {
-        Answer::Taken(m, _, _) => tell_number(b"taken, string ", m),
+        Answer::Taken(m, _, _, _) => tell_number(b"taken, string ", m),
         Answer::Refused(why) => tell_number(b"refused, number ", strings::refusal_number(why)),
     }
 }

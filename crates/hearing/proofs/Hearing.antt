@@ -10,8 +10,6 @@ use lib.ListN.{length}
 use borrow.Author.Tests.{eq-eqb, ne-eqb}
 use Rattle.strings.specs.declared.Refusal.{Refusal}
 use Rattle.strings.specs.declared.Verdict.{Verdict}
-use Rattle.strings.specs.declared.Written.{Written}
-use Rattle.strings.specs.declared.Written.the-variants.{Done, Refused as NotWritten}
 use Rattle.strings.specs.declared.Checked.{Checked}
 use Rattle.strings.specs.declared.Checked.the-variants.{Taken, Refused as NotTaken}
 use Rattle.strings.specs.declared.hamming.Ruling.{Ruling}
@@ -19,8 +17,12 @@ use Rattle.strings.specs.declared.hamming.Ruling.the-variants.{Sound, Damaged a
 use Rattle.strings.specs.Number.{numberOf, misshapen, stringBytes}
 use Rattle.strings.specs.Hamming.{ruling, isDamaged}
 use Rattle.strings.specs.Numbers.{refusalPaper, verdictPaper, Test, test, firstOf, placeOf, saidBy, answerOf, Answers}
-use Rattle.strings.specs.Calls.{Checks, writtenPaper, verdictTold, soundTests}
-use Rattle.relative.specs.Calls.{ReadsRelative}
+use Rattle.strings.specs.Calls.{Checks, verdictTold, soundTests}
+use Rattle.relative.specs.declared.Polarity.{Polarity}
+use Rattle.relative.specs.declared.Decoded.{Decoded}
+use Rattle.relative.specs.declared.Decoded.the-variants.{Read, Refused as NotRead}
+use Rattle.relative.specs.Polarity.{firstSymbol, polarityNumber}
+use Rattle.relative.specs.Calls.{decodedPaper, ReadsRelative}
 use Rattle.strings.proofs.Answer.{verdict-same, first-given, taken-made, not-taken}
 use Rattle.strings.proofs.Below.{unfit}
 use Rattle.strings.proofs.Tests.{past-first}
@@ -32,27 +34,27 @@ use Rattle.strings.proofs.Value.{string-number}
 use Rattle.hearing.specs.Hears.{verdictOf, plainOf, wholeOf, verdictIn, hearTests, Hears}
 
 -- ---- what the relative code says of any bytes
-module _ (s plain plain′ : List ℕ) (c : Written) (room : length plain ≡ 11) (a : ReadsRelative s plain c plain′) (out : List ℕ) where
+module _ (s plain plain′ : List ℕ) (c : Decoded) (room : length plain ≡ 11) (a : ReadsRelative s plain c plain′) (out : List ℕ) where
   -- it refuses, and nothing is written
-  pub hears-no : (q : Refusal) → c ≡ NotWritten q → Hears s out (NotTaken q) out
+  pub hears-no : (q : Refusal) → c ≡ NotRead q → Hears s out (NotTaken q) out
   unfolding Hears ReadsRelative
-  hears-no q e = by (misshapen s) (rw (has-room plain room) at (ap writtenPaper (sym e) ∙ a .answer))
+  hears-no q e = by (misshapen s) (rw (has-room plain room) at (ap decodedPaper (sym e) ∙ a .answer))
     where
-      by : (b : Bool) → refusalPaper q ≡ answerOf (test 2 b ∷ []) []
+      by : (b : Bool) → refusalPaper q ≡ answerOf (test 2 b ∷ []) (firstSymbol (numberOf s) ∷ [])
           → Answers (test 2 b ∷ soundTests (plainOf s)) (verdictTold (ruling (plainOf s))) (stringBytes (wholeOf s)) out (refusalPaper q) out
       by true e = record { answer = e; output = refl }
-      by false e = absurd (not-taken q [] e)
+      by false e = absurd (not-taken q _ e)
 
-  -- it reads the plain string: what the check says of that is heard
-  pub hears-on : c ≡ Done → (x : Checked) (out′ : List ℕ) → length out ≡ 11 → Checks plain′ out x out′ → Hears s out x out′
+  -- it reads the plain string, whichever way up it came: what the check says of that is heard
+  pub hears-on : (p : Polarity) → c ≡ Read p → (x : Checked) (out′ : List ℕ) → length out ≡ 11 → Checks plain′ out x out′ → Hears s out x out′
   unfolding Hears Checks ReadsRelative
-  hears-on e x out′ room′ b =
-      let done : ReadsRelative s plain Done plain′ = subst (λ (y : Written). ReadsRelative s plain y plain′) e a in
-      let is : plain′ ≡ stringBytes (plainOf s) = taken-made [] done in
+  hears-on p e x out′ room′ b =
+      let done : ReadsRelative s plain (Read p) plain′ = subst (λ (y : Decoded). ReadsRelative s plain y plain′) e a in
+      let is : plain′ ≡ stringBytes (plainOf s) = taken-made (polarityNumber p ∷ []) done in
       let small : plainOf s < 2 ^ 85 = omega (arith, read-lt (numberOf s)) in
       let shape : misshapen plain′ ≡ false = ap misshapen is ∙ string-shaped (plainOf s) small in
       let number : numberOf plain′ ≡ plainOf s = ap numberOf is ∙ string-number (plainOf s) small in
-      let clear : misshapen s ≡ false = unfit (misshapen s) (reads-exactly s plain Done plain′ done .taken .0 refl 1 (lit< tt)) in
+      let clear : misshapen s ≡ false = unfit (misshapen s) (reads-exactly s plain (Read p) plain′ done .taken .0 refl 1 (lit< tt)) in
       record {
         answer = rw clear (rw (has-room out room′, shape, number) at (b .answer));
         output = rw clear (rw (has-room out room′, shape, number) at (b .output));

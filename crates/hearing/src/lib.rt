@@ -1,6 +1,6 @@
 // What is heard of the bytes that an offer brings: its string, as the check leaves it.
+use relative::Decoded;
 use strings::Checked;
-use strings::Written;
 ghost use mathlib.Core.Path.{_≡_};
 ghost use lib.ListN.{length};
 ghost use Rattle.hearing.specs.Hears.{Hears};
@@ -13,7 +13,7 @@ pub fn hear(s: &[u8], out: &mut [u8]) -> Checked
     let mut plain = [0u8; 11];
     let read = relative::from_relative(s, &mut plain);
     match read {
-        Written::Refused(why) => Checked::Refused(why),
-        Written::Done => strings::check(&plain, out),
+        Decoded::Refused(why) => Checked::Refused(why),
+        Decoded::Read(_) => strings::check(&plain, out),
     }
 }

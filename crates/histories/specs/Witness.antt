@@ -6,6 +6,7 @@ use mathlib.Core.Path.{_≡_, refl, sym, ap₂, _∙_}
 use lib.ListN.{set, replicate}
 use Rattle.strings.specs.Number.{numberOf, paddingOf, misshapen, wordOf, flip, stringBytes}
 use Rattle.relative.specs.Relative.{readRelative, writeRelative}
+use Rattle.relative.specs.Polarity.{firstSymbol}
 use Rattle.strings.specs.Hamming.{position, sumC, sumAll, syndrome, sumsSet, highest, placed, judge, ruling, mended, sumsMade, encode}
 use Rattle.strings.specs.Numbers.{answerOf}
 use Rattle.strings.specs.Calls.{soundTests}
@@ -194,8 +195,8 @@ pub record Witness : Type 0 where
   pub first-rows : greaterFirst .rows ≡ tiedRows
   pub first-book : greaterFirst .book ≡ tiedBook
   -- as are the answers
-  pub answer-alone : saidAfter tieCalls (Offer 3 106 seven) ≡ 0 ∷ 7 ∷ 0 ∷ 0 ∷ 1 ∷ []
-  pub answer-after : saidAfter (Offer 7 106 seven ∷ tieCalls) (Offer 3 106 seven) ≡ 0 ∷ 7 ∷ 0 ∷ 0 ∷ 1 ∷ []
+  pub answer-alone : saidAfter tieCalls (Offer 3 106 seven) ≡ 0 ∷ 7 ∷ 0 ∷ 0 ∷ 1 ∷ 0 ∷ []
+  pub answer-after : saidAfter (Offer 7 106 seven ∷ tieCalls) (Offer 3 106 seven) ≡ 0 ∷ 7 ∷ 0 ∷ 0 ∷ 1 ∷ 0 ∷ []
   -- "by day and then by bits"
   pub next-day : slotOf nextDay 1 ≡ record { day = 8767; even = 18446744073709551616; odd = 2 }
   -- "Each string newly stored brings all entries that its frame then shows to the book"
@@ -206,12 +207,12 @@ pub record Witness : Type 0 where
   pub refused-said : answerOf (stationTests entry 3 107 damaged) (toldIn entry 3 107 damaged) ≡ 32 ∷ []
   pub refused-leaves : stationOf (Offer 3 107 damaged ∷ entryCalls) ≡ talliesMoved entry 3 (record { offered = 4; clean = 3; repaired = 0; refused = 1 })
   -- "one already held changes only tallies"
-  pub again-said : answerOf (stationTests entry 3 106 seven) (toldIn entry 3 106 seven) ≡ 0 ∷ 7 ∷ 0 ∷ 0 ∷ 0 ∷ []
+  pub again-said : answerOf (stationTests entry 3 106 seven) (toldIn entry 3 106 seven) ≡ 0 ∷ 7 ∷ 0 ∷ 0 ∷ 0 ∷ 0 ∷ []
   pub again-leaves : stationOf (Offer 3 106 seven ∷ entryCalls) ≡ talliesMoved entry 3 (record { offered = 4; clean = 4; repaired = 0; refused = 0 })
   -- "CHANNEL changes nothing at all", and is tested first: ten bytes. Channel 23 is the last
   pub channel-said : answerOf (stationTests entry 24 107 ten) (toldIn entry 24 107 ten) ≡ 1 ∷ []
   pub channel-leaves : stationOf (Offer 24 107 one ∷ entryCalls) ≡ entry
-  pub channel-23 : answerOf (stationTests entry 23 107 one) (toldIn entry 23 107 one) ≡ 0 ∷ 1 ∷ 0 ∷ 0 ∷ 1 ∷ []
+  pub channel-23 : answerOf (stationTests entry 23 107 one) (toldIn entry 23 107 one) ≡ 0 ∷ 1 ∷ 0 ∷ 0 ∷ 1 ∷ 0 ∷ []
   pub no-reset-said : saidAfter entryCalls (Reset 24) ≡ 1 ∷ []
   pub no-reset-leaves : stationOf (Reset 24 ∷ entryCalls) ≡ entry
   -- ---- "A reset empties the row, record and tallies; the book stays"
@@ -234,7 +235,7 @@ pub record Witness : Type 0 where
   pub record-channel : answerOf (recordTests goodEntry 24) [] ≡ 1 ∷ []
 
 pub witness : Witness
-unfolding whole inBytes sent sentDamaged one two three four five six1 seven fourteen fifteen six2 sixAbove sixGood fiveNext twoIll damaged soundTests numberOf paddingOf misshapen wordOf flip stringBytes readRelative writeRelative position sumC sumAll syndrome sumsSet highest placed judge ruling mended sumsMade encode layout valuesOf firstBad entryOf greater isGood dayOf isShown threeOf shownBy emptyBook joined joinedShown oneMore isPresent holdsFrame hasRecord emptyRow newFrame stored heldWith counted takenRow frameBy brought heldAfter freshStation noRow stationAfter stationReset judged healthBy callsOn saidAfter stationOf half entry twoFrames twoChannels greaterLast greaterFirst tiedRows tiedBook nextDay sixLast recordAlone goodEntry illEntry illRecord
+unfolding whole inBytes sent sentDamaged one two three four five six1 seven fourteen fifteen six2 sixAbove sixGood fiveNext twoIll damaged soundTests numberOf paddingOf misshapen wordOf flip stringBytes readRelative writeRelative firstSymbol position sumC sumAll syndrome sumsSet highest placed judge ruling mended sumsMade encode layout valuesOf firstBad entryOf greater isGood dayOf isShown threeOf shownBy emptyBook joined joinedShown oneMore isPresent holdsFrame hasRecord emptyRow newFrame stored heldWith counted takenRow frameBy brought heldAfter freshStation noRow stationAfter stationReset judged healthBy callsOn saidAfter stationOf half entry twoFrames twoChannels greaterLast greaterFirst tiedRows tiedBook nextDay sixLast recordAlone goodEntry illEntry illRecord
 witness =
     record {
       six2-sent = refl;

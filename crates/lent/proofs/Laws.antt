@@ -3,7 +3,7 @@
 -- Assumes nothing.
 use Prim.Native.Nat.{ℕ, zero, suc, _<_, _≤_, _/_, _%_, _*_, _^_}
 use native.Mathlib.Omega.{arith}
-use mathlib.Core.List.{List, [], _∷_}
+use mathlib.Core.List.{List, [], _∷_, _++_}
 use mathlib.Core.Path.{_≡_, refl, sym, ap, subst, _∙_}
 use lib.Dec.{eqb, ltb, ltb→lt}
 use lib.ListN.{getD, take}
@@ -16,6 +16,9 @@ use Rattle.strings.specs.declared.Verdict.the-variants.{Clean, Repaired}
 use Rattle.strings.specs.declared.hamming.Ruling.{Ruling}
 use Rattle.strings.specs.declared.hamming.Ruling.the-variants.{Sound, Damaged as Bad}
 use Rattle.strings.specs.Hamming.{NamesBit, ruling}
+use Rattle.strings.specs.Number.{bitOf, numberOf}
+use Rattle.strings.proofs.Digits.{bit-lt}
+use Rattle.relative.specs.Polarity.{firstSymbol}
 use Rattle.strings.specs.Numbers.{refusalPaper, Test, firstOf, placeOf, saidBy, answerOf}
 use Rattle.strings.specs.Calls.{soundTests}
 use Rattle.strings.proofs.Judge.{names-bit}
@@ -55,14 +58,17 @@ news-byte Kept = omega arith
 news-byte RecordBuilt = omega arith
 news-byte RecordOutOfRange = omega arith
 
-five-bytes : (m k i n : ℕ) → m < 256 → k < 256 → i < 256 → n < 256 → AreBytes (0 ∷ m ∷ k ∷ i ∷ n ∷ [])
-five-bytes m k i n lm lk li ln =
-    before 0 (m ∷ k ∷ i ∷ n ∷ []) (omega arith)
-    (before m (k ∷ i ∷ n ∷ []) lm (before k (i ∷ n ∷ []) lk (before i (n ∷ []) li (before n [] ln none-left))))
+six-bytes : (m k i n p : ℕ) → m < 256 → k < 256 → i < 256 → n < 256 → p < 256 → AreBytes (0 ∷ m ∷ k ∷ i ∷ n ∷ p ∷ [])
+six-bytes m k i n p lm lk li ln lp =
+    before 0 (m ∷ k ∷ i ∷ n ∷ p ∷ []) (omega arith)
+    (before m (k ∷ i ∷ n ∷ p ∷ []) lm (before k (i ∷ n ∷ p ∷ []) lk (before i (n ∷ p ∷ []) li (before n (p ∷ []) ln (before p [] lp none-left)))))
 
-taken-bytes : (m : ℕ) (v : Verdict) (w : News) → m ≤ 15 → NamesBit v → AreBytes (0 ∷ toldAs m v w)
-taken-bytes m Clean w l b = five-bytes m 0 0 (newsNumber w) (omega (arith, l)) (omega arith) (omega arith) (news-byte w)
-taken-bytes m (Repaired i) w l b = five-bytes m 1 i (newsNumber w) (omega (arith, l)) (omega arith) (omega (arith, b .1)) (news-byte w)
+taken-bytes : (m : ℕ) (v : Verdict) (w : News) (x : ℕ) → m ≤ 15 → NamesBit v → AreBytes (0 ∷ (toldAs m v w ++ (firstSymbol x ∷ [])))
+unfolding firstSymbol
+taken-bytes m Clean w x l b =
+    six-bytes m 0 0 (newsNumber w) (bitOf x 85) (omega (arith, l)) (omega arith) (omega arith) (news-byte w) (omega (arith, bit-lt x 85))
+taken-bytes m (Repaired i) w x l b =
+    six-bytes m 1 i (newsNumber w) (bitOf x 85) (omega (arith, l)) (omega arith) (omega (arith, b .1)) (news-byte w) (omega (arith, bit-lt x 85))
 
 -- ---- what tests say whose numbers are bytes and that tell no place
 said-bytes : (k : ℕ) (place told : List ℕ) → k < 256 → place ≡ [] → AreBytes (0 ∷ told) → AreBytes (saidBy k place told)
@@ -92,7 +98,7 @@ module _ (st : Station) (c epoch : ℕ) (s : List ℕ) where
   answer-bytes =
       let n = wholeOf s in
       said-bytes (firstOf tests) (placeOf tests) (toldIn st c epoch s) small placed-nowhere
-      (taken-bytes (numberIn n) (verdictOf (ruling (plainOf s))) (newsOf (heldAt st c) epoch n) (number-small n) (names-one (plainOf s)))
+      (taken-bytes (numberIn n) (verdictOf (ruling (plainOf s))) (newsOf (heldAt st c) epoch n) (numberOf s) (number-small n) (names-one (plainOf s)))
 
 -- ---- the offer that a lent one is
 module _ (st : Station) (c epoch : ℕ) (s : List ℕ) where
@@ -115,14 +121,14 @@ module _ (st : Station) (c epoch : ℕ) (s : List ℕ) where
   bytes : (r : Stepped) → OffersTo st c epoch s r → AreBytes (answerPaper (r .answer))
   bytes r o = subst AreBytes (sym (o .answer)) (answer-bytes st c epoch s)
 
--- ---- an answer read back: five numbers after a 0, two where the first is 10, and else the first alone
-abbrev five : List ℕ → List ℕ
-five l = getD l 0 0 ∷ getD l 1 0 ∷ getD l 2 0 ∷ getD l 3 0 ∷ getD l 4 0 ∷ []
+-- ---- an answer read back: five numbers after the 0, two where the first is 10, and else the first alone
+abbrev six : List ℕ → List ℕ
+six l = getD l 0 0 ∷ getD l 1 0 ∷ getD l 2 0 ∷ getD l 3 0 ∷ getD l 4 0 ∷ getD l 5 0 ∷ []
 
 abbrev told : List ℕ → List ℕ
 told l = pick (eqb (getD l 0 0) 0) l (pick (eqb (getD l 0 0) 10) (take 2 l) (take 1 l))
 
-refusal-read : (q : Refusal) → told (five (refusalPaper q)) ≡ refusalPaper q
+refusal-read : (q : Refusal) → told (six (refusalPaper q)) ≡ refusalPaper q
 refusal-read Channel = refl
 refusal-read Shape = refl
 refusal-read (Damaged Unplaced) = refl
@@ -140,25 +146,25 @@ refusal-read Room = refl
 refusal-read Nothing = refl
 refusal-read Slot = refl
 
-paper-read : (a : Answer) → told (five (answerPaper a)) ≡ answerPaper a
-paper-read (Taken m Clean w) = refl
-paper-read (Taken m (Repaired i) w) = refl
+paper-read : (a : Answer) → told (six (answerPaper a)) ≡ answerPaper a
+paper-read (Taken m Clean w p) = refl
+paper-read (Taken m (Repaired i) w p) = refl
 paper-read (Refused q) = refusal-read q
 
--- the first five bytes of a number
+-- the first six bytes of a number
 abbrev byteOf : ℕ → ℕ → ℕ
 byteOf n k = n / 2 ^ (8 * k) % 256
 
-abbrev fiveIn : ℕ → List ℕ
-fiveIn n = byteOf n 0 ∷ byteOf n 1 ∷ byteOf n 2 ∷ byteOf n 3 ∷ byteOf n 4 ∷ []
+abbrev sixIn : ℕ → List ℕ
+sixIn n = byteOf n 0 ∷ byteOf n 1 ∷ byteOf n 2 ∷ byteOf n 3 ∷ byteOf n 4 ∷ byteOf n 5 ∷ []
 
-five-read : (xs : List ℕ) → AreBytes xs → fiveIn (packed xs) ≡ five xs
-five-read xs h = rw (read-back xs h 0, read-back xs h 1, read-back xs h 2, read-back xs h 3, read-back xs h 4)
+six-read : (xs : List ℕ) → AreBytes xs → sixIn (packed xs) ≡ six xs
+six-read xs h = rw (read-back xs h 0, read-back xs h 1, read-back xs h 2, read-back xs h 3, read-back xs h 4, read-back xs h 5)
 
 apart : (a b : Answer) → AreBytes (answerPaper a) → AreBytes (answerPaper b) → packed (answerPaper a) ≡ packed (answerPaper b) → a ≡ b
 apart a b h k e =
     answer-same a b
-    (sym (paper-read a) ∙ ap told (sym (five-read (answerPaper a) h) ∙ ap fiveIn e ∙ five-read (answerPaper b) k) ∙ paper-read b)
+    (sym (paper-read a) ∙ ap told (sym (six-read (answerPaper a) h) ∙ ap sixIn e ∙ six-read (answerPaper b) k) ∙ paper-read b)
 
 -- ---- the number tells the answer
 module _ {a : Answer} {n : ℕ} (t : ToldAs a n) where

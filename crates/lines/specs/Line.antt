@@ -3,11 +3,13 @@
 use Prim.Native.Nat.{ℕ}
 use mathlib.Core.List.{List, [], _∷_}
 use mathlib.Core.Path.{_≡_}
+use lib.Dec.{eqb}
 use lib.ListN.{getD, take, drop}
 use Rattle.strings.specs.Pick.{pick, isOneOf}
-use Rattle.strings.specs.Number.{valueOf}
+use Rattle.strings.specs.Number.{valueOf, numberOf}
 use Rattle.strings.specs.Numbers.{firstOf}
 use Rattle.words.specs.Calls.{numberIn}
+use Rattle.relative.specs.Polarity.{firstSymbol}
 use Rattle.hearing.specs.Hears.{wholeOf, verdictIn}
 use Rattle.seen.specs.Seen.{bitIn}
 use Rattle.station.specs.declared.Station.{Station}
@@ -43,6 +45,10 @@ beforeNumber = 1 ∷ 2 ∷ 31 ∷ 32 ∷ 33 ∷ 4 ∷ 5 ∷ []
 abbrev pub mFor : ℕ → List ℕ → ℕ
 mFor number s = pick (isOneOf beforeNumber number) 0 (numberIn (wholeOf s))
 
+-- ---- "the listing gets it as a sixth field, 0 or 1, and 0 for refused records": the first symbol of one that is taken
+abbrev pub polarityFor : ℕ → List ℕ → ℕ
+polarityFor number s = pick (eqb number 0) (firstSymbol (numberOf s)) 0
+
 -- ---- the line of a record
 unfoldable pub lineFor : Station → List ℕ → Line
 lineFor st rec =
@@ -52,13 +58,15 @@ lineFor st rec =
       number = numberFor st rec;
       repaired = repairedFor (numberFor st rec) (symbolsIn rec);
       m = mFor (numberFor st rec) (symbolsIn rec);
+      polarity = polarityFor (numberFor st rec) (symbolsIn rec);
     }
 
--- a record offered to a station: the five numbers, and the whole station after it
+-- a record offered to a station: the six numbers, and the whole station after it
 pub record Lists (st : Station) (rec : List ℕ) (r : Listed) : Type 0 where
   pub channel : r .line .channel ≡ channelIn rec
   pub epoch : r .line .epoch ≡ epochIn rec
   pub number : r .line .number ≡ numberFor st rec
   pub repaired : r .line .repaired ≡ repairedFor (numberFor st rec) (symbolsIn rec)
   pub m : r .line .m ≡ mFor (numberFor st rec) (symbolsIn rec)
+  pub polarity : r .line .polarity ≡ polarityFor (numberFor st rec) (symbolsIn rec)
   pub station : r .station ≡ stationAfter st (channelIn rec) (epochIn rec) (symbolsIn rec)

@@ -40,16 +40,16 @@ row [] = []
 row (n ∷ []) = cell n lineFeed
 row (n ∷ k ∷ ns) = cell n space ++ row (k ∷ ns)
 
--- "prints per record: channel, epoch, number .., repaired bit .., m"
+-- "prints per record: channel, epoch, number .., repaired bit .., m", and the polarity
 abbrev pub numbersOf : Line → List ℕ
-numbersOf l = l .channel ∷ l .epoch ∷ l .number ∷ l .repaired ∷ l .m ∷ []
+numbersOf l = l .channel ∷ l .epoch ∷ l .number ∷ l .repaired ∷ l .m ∷ l .polarity ∷ []
 
 unfoldable pub lineText : Line → List ℕ
 lineText l = row (numbersOf l)
 
 -- how many digits each of them has at most: a byte three, and an epoch ten
 abbrev pub lineDigits : List ℕ
-lineDigits = 3 ∷ 10 ∷ 3 ∷ 3 ∷ 3 ∷ []
+lineDigits = 3 ∷ 10 ∷ 3 ∷ 3 ∷ 3 ∷ 3 ∷ []
 
 abbrev pub Within : List ℕ → List ℕ → Type 0
 Within [] [] = Unit

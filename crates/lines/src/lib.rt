@@ -1,4 +1,4 @@
-// The listing: records of sixteen bytes offered to a station, and a line of five numbers for each.
+// The listing: records of sixteen bytes offered to a station, and a line of six numbers for each.
 mod printing;
 mod records;
 mod stream;
@@ -6,13 +6,14 @@ mod stream;
 use station::Station;
 pub use stream::list_input;
 
-// The five numbers, in the order in which they are printed.
+// The six numbers, in the order in which they are printed.
 struct Line {
     channel: u8,
     epoch: u32,
     number: u8,
     repaired: u8,
     m: u8,
+    polarity: u8,
 }
 
 // A record's line, and the station after it.

@@ -43,7 +43,7 @@ fn put_numbers(text: &mut [u8], at: usize, numbers: &[u64]) -> usize
 }
 
 // The numbers of a line, none with more digits than its type has.
-fn numbers_of(line: Line) -> [u64; 5]
+fn numbers_of(line: Line) -> [u64; 6]
     ensures { λ r. ⌜ (r ≡ numbersOf line) × Within lineDigits r ⌝ }
 {
     [
@@ -52,6 +52,7 @@ fn numbers_of(line: Line) -> [u64; 5]
         line.number as u64,
         line.repaired as u64,
         line.m as u64,
+        line.polarity as u64,
     ]
 }
 

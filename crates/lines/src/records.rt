@@ -31,6 +31,7 @@ pub fn list_record(st: Station, rec: &[u8]) -> Listed
             number: number_told(answer),
             repaired: seen.repaired,
             m: seen.m,
+            polarity: seen.polarity,
         },
     }
 }

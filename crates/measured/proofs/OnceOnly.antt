@@ -8,6 +8,8 @@ use Rattle.strings.specs.declared.Written.{Written}
 use Rattle.strings.specs.declared.Checked.{Checked}
 use Rattle.strings.specs.Calls.{writtenPaper, checkedPaper}
 use Rattle.strings.proofs.CheckRule.{check-once}
+use Rattle.relative.specs.declared.Decoded.{Decoded}
+use Rattle.relative.specs.Calls.{decodedPaper}
 use Rattle.relative.proofs.RelativeCode.{reads-once}
 use Rattle.words.specs.declared.reading.Reading.{Reading}
 use Rattle.words.specs.Calls.{readingPaper}
@@ -24,7 +26,7 @@ module _ (s out : List ℕ) (r q : ℕ) (out′ out″ : List ℕ) where
   pub relative-tells-once : TellsRelative s out r out′ → TellsRelative s out q out″ → (r ≡ q) × (out′ ≡ out″)
   relative-tells-once a b =
       let e = reads-once s out (a .call) out′ (b .call) out″ (a .made) (b .made) in
-      (written-once (a .call) (b .call) (e .0) (a .answer) (b .answer), e .1)
+      (a .answer ∙ ap (λ (x : Decoded). packed (decodedPaper x)) (e .0) ∙ sym (b .answer), e .1)
 
   pub check-tells-once : TellsCheck s out r out′ → TellsCheck s out q out″ → (r ≡ q) × (out′ ≡ out″)
   check-tells-once a b =

@@ -8,7 +8,8 @@ use lib.ListN.{getD}
 use Rattle.strings.specs.declared.Written.{Written}
 use Rattle.strings.specs.declared.Checked.{Checked}
 use Rattle.strings.specs.Calls.{writtenPaper, checkedPaper, Checks}
-use Rattle.relative.specs.Calls.{ReadsRelative}
+use Rattle.relative.specs.declared.Decoded.{Decoded}
+use Rattle.relative.specs.Calls.{decodedPaper, ReadsRelative}
 use Rattle.records.specs.declared.kinds.Kind.{Kind}
 use Rattle.records.specs.declared.kinds.Kind.the-variants.{One, Two, Three, Four, Five, Even, Odd, Fourteen}
 use Rattle.records.specs.Records.{listOf, recordOf}
@@ -19,9 +20,9 @@ use Rattle.told.specs.Told.{packed}
 
 -- ---- a plain string from its relative form
 pub record TellsRelative (s out : List ℕ) (r : ℕ) (out′ : List ℕ) : Type 0 where
-  pub call : Written
+  pub call : Decoded
   pub made : ReadsRelative s out call out′
-  pub answer : r ≡ packed (writtenPaper call)
+  pub answer : r ≡ packed (decodedPaper call)
 
 -- ---- a check
 pub record TellsCheck (s out : List ℕ) (r : ℕ) (out′ : List ℕ) : Type 0 where

@@ -1,12 +1,15 @@
 // A string read, checked, its words read and written. Each answers the numbers of the call that it
 // makes, in one.
 use records::Kind;
+use relative::Decoded;
+use relative::polarity_number;
 use told::checked_told;
 use told::refusal_told;
 use told::written_told;
 use words::Reading;
 ghost use mathlib.Core.Path.{_≡_};
 ghost use mathlib.Core.List.{[], _∷_};
+ghost use Rattle.relative.specs.Calls.{decodedPaper};
 ghost use Rattle.told.specs.Told.{packed};
 ghost use Rattle.layout.specs.Layout.{kindNumber};
 ghost use Rattle.measured.specs.Parts.{TellsRelative, TellsCheck, kindBy, TellsRead, TellsWrite};
@@ -15,7 +18,7 @@ ghost use Rattle.measured.specs.Parts.{TellsRelative, TellsCheck, kindBy
 pub extern "C" fn measured_relative(s: &[u8], out: &mut [u8]) -> u64
     ensures { λ r. ⌜ TellsRelative (now (s .entry)) (now (out .entry)) r (now (out .exit)) ⌝ }
 {
-    written_told(relative::from_relative(s, out))
+    decoded_told(relative::from_relative(s, out))
 }
 
 #[no_mangle]
@@ -84,4 +87,14 @@ fn read_told(m: u8, kind: u8) -> u64
     ensures { λ r. ⌜ r ≡ packed (0 ∷ m ∷ kind ∷ []) ⌝ }
 {
     256 * (m as u64) + 65536 * (kind as u64)
+}
+
+// What a relative reading answers: 0 and the polarity, or the refusal's numbers.
+fn decoded_told(d: Decoded) -> u64
+    ensures { λ r. ⌜ r ≡ packed (decodedPaper d) ⌝ }
+{
+    match d {
+        Decoded::Read(p) => 256 * (polarity_number(p) as u64),
+        Decoded::Refused(why) => refusal_told(why) as u64,
+    }
 }

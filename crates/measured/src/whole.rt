@@ -49,7 +49,7 @@ fn byte_told(a: Answer) -> u8
     ensures { λ r. ⌜ r ≡ byteOf (answerPaper a) ⌝ }
 {
     match a {
-        Answer::Taken(m, _, _) => m,
+        Answer::Taken(m, _, _, _) => m,
         Answer::Refused(why) => strings::refusal_number(why),
     }
 }

@@ -2,7 +2,7 @@
 -- Assumes nothing.
 use mathlib.Core.Path.{_≡_, refl, _∙_, subst, sym, ap, ap₂}
 use mathlib.Core.Bool.{Bool, true, false}
-use mathlib.Core.List.{List}
+use mathlib.Core.List.{List, [], _∷_}
 use mathlib.Core.Logic.{⊎-elim, _⊎_, inl, inr}
 use Prim.Native.Nat.{ℕ, zero, suc, _+_, _-_, _%_, _^_, _≤_, _<_}
 use native.Mathlib.Nat.{mod-lt, zero-lt-suc, ne-of-lt, eq-or-lt-of-le, le-of-suc-le-suc}
@@ -13,18 +13,23 @@ use lib.ListN.{length, getD}
 use lib.Pow.{ones-lt}
 use borrow.Author.Tests.{ne-eqb}
 use Rattle.strings.specs.declared.Written.{Written}
-use Rattle.strings.specs.declared.Written.the-variants.{Done, Refused}
+use Rattle.strings.specs.declared.Written.the-variants.{Done, Refused as NotWritten}
 use Rattle.strings.specs.declared.Refusal.{Refusal}
 use Rattle.strings.specs.declared.Refusal.the-variants.{Shape, Idle, Room}
 use Rattle.strings.specs.Pick.{pick}
 use Rattle.strings.specs.Number.{bitOf, fromBits, numberOf, misshapen, stringBytes}
+use Rattle.relative.specs.declared.Polarity.{Polarity}
+use Rattle.relative.specs.declared.Polarity.the-variants.{Upright, Inverted}
+use Rattle.relative.specs.declared.Decoded.{Decoded}
+use Rattle.relative.specs.declared.Decoded.the-variants.{Read, Refused}
 use Rattle.relative.specs.Relative.{sent, writeRelative, readBit, readRelative, inverse}
-use Rattle.strings.specs.Numbers.{Test, test, Answers, Exactly}
+use Rattle.relative.specs.Polarity.{firstSymbol, polarityOf, polarityNumber, turned}
+use Rattle.strings.specs.Numbers.{test, firstOf, placeOf, saidBy, Exactly}
 use Rattle.strings.specs.Calls.{writtenPaper, isIdle}
-use Rattle.relative.specs.Calls.{readingTests, writingTests, ReadsRelative, WritesRelative}
+use Rattle.relative.specs.Calls.{decodedPaper, readingTests, writingTests, ReadsRelative, WritesRelative, Meant, otherWay}
 use Rattle.strings.proofs.Digits.{bit-lt, bit-xor, bits-same, from-lt, bit-from, high-bit}
 use Rattle.strings.proofs.Value.{string-number}
-use Rattle.strings.proofs.Answer.{refuses, goes-on, takes, same-answer, written-same, exactly, refused-left}
+use Rattle.strings.proofs.Answer.{refuses, goes-on, takes, same-answer, refusal-same, not-taken, written-same, exactly, refused-left}
 use Rattle.strings.proofs.Shape.{string-shaped, has-room, no-room}
 
 -- ---- the bits of what is read and of what is written, and their bounds: bit 85 is read as 0
@@ -141,17 +146,45 @@ bit-written-read x i l u =
     bit-written (readRelative x) i l u ∙ ap (sent (readRelative x)) e ∙ sent-read x (85 - i) (omega arith)
     ∙ ap (λ (j : ℕ). (bitOf x j + bitOf x 85) % 2) d
 
--- "before bit 85 stands 0": symbols that are read and written again are the same or the same inverted, whichever begin with 0
-pub written-read : (x : ℕ) → x < 2 ^ 85 → (writeRelative (readRelative x) ≡ x) ⊎ (writeRelative (readRelative x) ≡ inverse x)
-written-read x h =
-    let w = writeRelative (readRelative x) in
-    ⊎-elim
-    (λ (e : bitOf x 85 ≡ 1). inr (bits-same 85 w (inverse x) (written-lt (readRelative x)) (inverse-lt x h)
-    (λ i l u. bit-written-read x i l u ∙ ap (λ (b : ℕ). (bitOf x i + b) % 2) e ∙ sym (bit-inverse x i l u))))
-    (λ (g : bitOf x 85 < 1). let z : bitOf x 85 ≡ 0 = omega arith in
-    inl (bits-same 85 w x (written-lt (readRelative x)) h
-    (λ i l u. bit-written-read x i l u ∙ ap (λ (b : ℕ). (bitOf x i + b) % 2) z ∙ omega (arith, bit-lt x i))))
-    (eq-or-lt-of-le (le-of-suc-le-suc (bit-lt x 85)))
+-- "before bit 85 stands 0": symbols that are read and written again are the same where they began with 0, and the same inverted where with 1
+pub written-upright : (x : ℕ) → x < 2 ^ 85 → bitOf x 85 ≡ 0 → writeRelative (readRelative x) ≡ x
+written-upright x h e =
+    bits-same 85 (writeRelative (readRelative x)) x (written-lt (readRelative x)) h
+    (λ i l u. bit-written-read x i l u ∙ ap (λ (b : ℕ). (bitOf x i + b) % 2) e ∙ omega (arith, bit-lt x i))
+
+pub written-inverted : (x : ℕ) → x < 2 ^ 85 → bitOf x 85 ≡ 1 → writeRelative (readRelative x) ≡ inverse x
+written-inverted x h e =
+    bits-same 85 (writeRelative (readRelative x)) (inverse x) (written-lt (readRelative x)) (inverse-lt x h)
+    (λ i l u. bit-written-read x i l u ∙ ap (λ (b : ℕ). (bitOf x i + b) % 2) e ∙ sym (bit-inverse x i l u))
+
+-- ---- the polarity: its number is the first symbol, and no second polarity has that number
+polarity-by : (b : ℕ) → b < 2 → polarityNumber (pick (eqb b 0) Upright Inverted) ≡ b
+polarity-by zero h = refl
+polarity-by (suc zero) h = refl
+polarity-by (suc (suc b)) h = absurd (omega arith)
+
+first-lt : (x : ℕ) → firstSymbol x < 2
+unfolding firstSymbol
+first-lt x = bit-lt x 85
+
+pub polarity-told : (x : ℕ) → polarityNumber (polarityOf x) ≡ firstSymbol x
+polarity-told x = polarity-by (firstSymbol x) (first-lt x)
+
+abbrev polarityBy : ℕ → Polarity
+polarityBy b = pick (eqb b 0) Upright Inverted
+
+polarity-back : (p : Polarity) → polarityBy (polarityNumber p) ≡ p
+polarity-back Upright = refl
+polarity-back Inverted = refl
+
+pub polarity-same : (p q : Polarity) → polarityNumber p ≡ polarityNumber q → p ≡ q
+polarity-same p q e = sym (polarity-back p) ∙ ap polarityBy e ∙ polarity-back q
+
+pub decoded-same : (d e : Decoded) → decodedPaper d ≡ decodedPaper e → d ≡ e
+decoded-same (Read p) (Read q) e = ap Read (polarity-same p q (ap (λ (l : List ℕ). getD l 1 0) e))
+decoded-same (Read p) (Refused r) e = absurd (not-taken r _ (sym e))
+decoded-same (Refused r) (Read p) e = absurd (not-taken r _ e)
+decoded-same (Refused r) (Refused q) e = ap Refused (refusal-same r q e)
 
 -- ---- the answers of the calls, test by test: "Relative code, reading: 12, 2; writing: 12, 2, 4"
 module _ (s out : List ℕ) where
@@ -163,15 +196,15 @@ module _ (s out : List ℕ) where
   unfolding ReadsRelative
   read-no-shape h e = goes-on 12 (has-room out h) (refuses 1 e)
 
-  pub reads : length out ≡ 11 → misshapen s ≡ false → ReadsRelative s out Done (stringBytes (readRelative (numberOf s)))
+  pub reads : length out ≡ 11 → misshapen s ≡ false → ReadsRelative s out (Read (polarityOf (numberOf s))) (stringBytes (readRelative (numberOf s)))
   unfolding ReadsRelative
-  reads h e = goes-on 12 (has-room out h) (goes-on 2 e (takes refl refl))
+  reads h e = goes-on 12 (has-room out h) (goes-on 2 e (takes (ap (λ (b : ℕ). 0 ∷ b ∷ []) (polarity-told (numberOf s))) refl))
 
-  pub write-no-room : (length out ≡ 11 → ⊥) → WritesRelative s out (Refused Room) out
+  pub write-no-room : (length out ≡ 11 → ⊥) → WritesRelative s out (NotWritten Room) out
   unfolding WritesRelative
   write-no-room h = refuses 11 (no-room out h)
 
-  pub write-no-shape : length out ≡ 11 → misshapen s ≡ true → WritesRelative s out (Refused Shape) out
+  pub write-no-shape : length out ≡ 11 → misshapen s ≡ true → WritesRelative s out (NotWritten Shape) out
   unfolding WritesRelative
   write-no-shape h e = goes-on 12 (has-room out h) (refuses 1 e)
 
@@ -179,7 +212,7 @@ module _ (s out : List ℕ) where
   abbrev lastFits : Bool
   lastFits = getD (writingTests s out) 2 (test 0 false) .fits
 
-  pub last-refuses : length out ≡ 11 → misshapen s ≡ false → lastFits ≡ true → WritesRelative s out (Refused Idle) out
+  pub last-refuses : length out ≡ 11 → misshapen s ≡ false → lastFits ≡ true → WritesRelative s out (NotWritten Idle) out
   unfolding WritesRelative
   last-refuses h e i = goes-on 12 (has-room out h) (goes-on 2 e (refuses 3 i))
 
@@ -188,7 +221,7 @@ module _ (s out : List ℕ) where
   last-takes h e i = goes-on 12 (has-room out h) (goes-on 2 e (goes-on 4 i (takes refl refl)))
 
   -- it is the test of bit 85
-  pub write-idle : length out ≡ 11 → misshapen s ≡ false → isIdle (numberOf s) ≡ true → WritesRelative s out (Refused Idle) out
+  pub write-idle : length out ≡ 11 → misshapen s ≡ false → isIdle (numberOf s) ≡ true → WritesRelative s out (NotWritten Idle) out
   write-idle h e i = last-refuses h e i
 
   pub writes : length out ≡ 11 → misshapen s ≡ false → isIdle (numberOf s) ≡ false
@@ -196,26 +229,24 @@ module _ (s out : List ℕ) where
   writes h e i = last-takes h e i
 
 -- ---- no second answer fits, and each number is given exactly where its test is the first to fit
-once : {ts : List Test} {told made out out′ out″ : List ℕ} (r q : Written)
-    → Answers ts told made out (writtenPaper r) out′ → Answers ts told made out (writtenPaper q) out″ → (r ≡ q) × (out′ ≡ out″)
-once r q a b = let e = same-answer a b in (written-same r q (e .0), e .1)
-
-module _ (s out : List ℕ) (r : Written) (out′ : List ℕ) where
-  pub reads-once : (q : Written) (out″ : List ℕ) → ReadsRelative s out r out′ → ReadsRelative s out q out″ → (r ≡ q) × (out′ ≡ out″)
+module _ (s out : List ℕ) where
+  pub reads-once : (r : Decoded) (out′ : List ℕ) (q : Decoded) (out″ : List ℕ) → ReadsRelative s out r out′ → ReadsRelative s out q out″
+      → (r ≡ q) × (out′ ≡ out″)
   unfolding ReadsRelative
-  reads-once q out″ a b = once r q a b
+  reads-once r out′ q out″ a b = let e = same-answer a b in (decoded-same r q (e .0), e .1)
 
-  pub writes-once : (q : Written) (out″ : List ℕ) → WritesRelative s out r out′ → WritesRelative s out q out″ → (r ≡ q) × (out′ ≡ out″)
+  pub writes-once : (r : Written) (out′ : List ℕ) (q : Written) (out″ : List ℕ) → WritesRelative s out r out′ → WritesRelative s out q out″
+      → (r ≡ q) × (out′ ≡ out″)
   unfolding WritesRelative
-  writes-once q out″ a b = once r q a b
+  writes-once r out′ q out″ a b = let e = same-answer a b in (written-same r q (e .0), e .1)
 
-  pub reads-exactly : ReadsRelative s out r out′ → Exactly (readingTests s out) (writtenPaper r)
+  pub reads-exactly : (r : Decoded) (out′ : List ℕ) → ReadsRelative s out r out′ → Exactly (readingTests s out) (decodedPaper r)
   unfolding ReadsRelative
-  reads-exactly a = exactly tt a
+  reads-exactly r out′ a = exactly tt a
 
-  pub writes-exactly : WritesRelative s out r out′ → Exactly (writingTests s out) (writtenPaper r)
+  pub writes-exactly : (r : Written) (out′ : List ℕ) → WritesRelative s out r out′ → Exactly (writingTests s out) (writtenPaper r)
   unfolding WritesRelative
-  writes-exactly a = exactly tt a
+  writes-exactly r out′ a = exactly tt a
 
 -- "Refusals leave outputs untouched"
 module _ (s out : List ℕ) (q : Refusal) (out′ : List ℕ) where
@@ -223,14 +254,15 @@ module _ (s out : List ℕ) (q : Refusal) (out′ : List ℕ) where
   unfolding ReadsRelative
   reads-untouched a = refused-left q a
 
-  pub writes-untouched : WritesRelative s out (Refused q) out′ → out′ ≡ out
+  pub writes-untouched : WritesRelative s out (NotWritten q) out′ → out′ ≡ out
   unfolding WritesRelative
   writes-untouched a = refused-left q a
 
 -- ---- over the calls: what they make of the bytes of a string
-reads-string : (x : ℕ) (out : List ℕ) → x < 2 ^ 85 → length out ≡ 11 → ReadsRelative (stringBytes x) out Done (stringBytes (readRelative x))
+reads-string : (x : ℕ) (out : List ℕ) → x < 2 ^ 85 → length out ≡ 11 → ReadsRelative (stringBytes x) out (Read (polarityOf x)) (stringBytes (readRelative x))
 reads-string x out h n =
-    subst (λ (y : ℕ). ReadsRelative (stringBytes x) out Done (stringBytes (readRelative y))) (string-number x h) (reads (stringBytes x) out n (string-shaped x h))
+    subst (λ (y : ℕ). ReadsRelative (stringBytes x) out (Read (polarityOf y)) (stringBytes (readRelative y))) (string-number x h)
+    (reads (stringBytes x) out n (string-shaped x h))
 
 writes-string : (n : ℕ) (out : List ℕ) → n < 2 ^ 84 → length out ≡ 11 → WritesRelative (stringBytes n) out Done (stringBytes (writeRelative n))
 writes-string n out h l =
@@ -240,40 +272,104 @@ writes-string n out h l =
     subst (λ (y : ℕ). WritesRelative (stringBytes n) out Done (stringBytes (writeRelative y))) e
     (writes (stringBytes n) out l (string-shaped n g) (ap (λ (b : ℕ). eqb b 1) plain))
 
--- a string whose bit 85 is 0, written and then read, is the same string
+-- WHAT THE POLARITY MEANS
+not-both : Read Upright ≡ Read Inverted → ⊥
+not-both e = let z : _≡_ {A = ℕ} 0 1 = ap (λ (d : Decoded). getD (decodedPaper d) 1 0) e in omega arith
+
+-- no string is its own inverse
+not-own-inverse : (x : ℕ) → x < 2 ^ 85 → stringBytes x ≡ stringBytes (inverse x) → ⊥
+not-own-inverse x h e =
+    let same : x ≡ inverse x = sym (string-number x h) ∙ ap numberOf e ∙ string-number (inverse x) (inverse-lt x h) in
+    let bits : bitOf x 85 ≡ (bitOf x 85 + 1) % 2 = ap (λ (y : ℕ). bitOf y 85) same ∙ bit-inverse x 85 (lit≤ tt) (lit≤ tt) in
+    omega (arith, bit-lt x 85)
+
+pub polarity-means : (x : ℕ) → x < 2 ^ 85 → (out back : List ℕ) → length out ≡ 11 → length back ≡ 11
+    → (r : Decoded) (q : Written) (out′ back′ : List ℕ) → ReadsRelative (stringBytes x) out r out′ → WritesRelative out′ back q back′
+    → Meant x r q back′
+unfolding firstSymbol
+polarity-means x h out back l m r q out′ back′ a b =
+    let y = readRelative x in
+    let d = reads-once (stringBytes x) out r out′ (Read (polarityOf x)) (stringBytes y) a (reads-string x out h l) in
+    let e = writes-once (stringBytes y) back q back′ Done (stringBytes (writeRelative y))
+    (subst (λ (s : List ℕ). WritesRelative s back q back′) (d .1) b) (writes-string y back (read-lt x) m) in
+    let told : (k : ℕ) → bitOf x 85 ≡ k → r ≡ Read (polarityBy k) = (λ k z. d .0 ∙ ap (λ (c : ℕ). Read (polarityBy c)) z) in
+    ⊎-elim
+    (λ (z : bitOf x 85 ≡ 1).
+    let is = told 1 z in
+    let made : back′ ≡ stringBytes (inverse x) = e .1 ∙ ap stringBytes (written-inverted x h z) in
+    record {
+      read = inr is;
+      written = e .0;
+      upright = ((λ p. absurd (not-both (sym p ∙ is))), (λ p. absurd (not-own-inverse x h (sym p ∙ made))));
+      inverted = ((λ p. made), (λ p. is));
+    })
+    (λ (g : bitOf x 85 < 1).
+    let z : bitOf x 85 ≡ 0 = omega arith in
+    let is = told 0 z in
+    let made : back′ ≡ stringBytes x = e .1 ∙ ap stringBytes (written-upright x h z) in
+    record {
+      read = inl is;
+      written = e .0;
+      upright = ((λ p. made), (λ p. is));
+      inverted = ((λ p. absurd (not-both (sym is ∙ p))), (λ p. absurd (not-own-inverse x h (sym made ∙ p))));
+    })
+    (eq-or-lt-of-le (le-of-suc-le-suc (bit-lt x 85)))
+
+-- a string whose bit 85 is 0, written and then read, is the same string, and it came upright
+pub first-written : (n : ℕ) → n < 2 ^ 84 → firstSymbol (writeRelative n) ≡ 0
+unfolding firstSymbol
+first-written n h = bit-written n 85 (lit≤ tt) (lit≤ tt) ∙ ap (λ (b : ℕ). (b + 0) % 2) (high-bit n 85 84 h (lit< tt))
+
 pub written-then-read : (n : ℕ) → n < 2 ^ 84 → (out back : List ℕ) → length out ≡ 11 → length back ≡ 11
-    → (r q : Written) (out′ back′ : List ℕ) → WritesRelative (stringBytes n) out r out′ → ReadsRelative out′ back q back′
-    → (r ≡ Done) × ((q ≡ Done) × (back′ ≡ stringBytes n))
+    → (r : Written) (q : Decoded) (out′ back′ : List ℕ) → WritesRelative (stringBytes n) out r out′ → ReadsRelative out′ back q back′
+    → (r ≡ Done) × ((q ≡ Read Upright) × (back′ ≡ stringBytes n))
 written-then-read n h out back l m r q out′ back′ a b =
     let w = writeRelative n in
     let d = writes-once (stringBytes n) out r out′ Done (stringBytes w) a (writes-string n out h l) in
-    let e = reads-once (stringBytes w) back q back′ Done (stringBytes (readRelative w))
+    let e = reads-once (stringBytes w) back q back′ (Read (polarityOf w)) (stringBytes (readRelative w))
     (subst (λ (s : List ℕ). ReadsRelative s back q back′) (d .1) b) (reads-string w back (written-lt n) m) in
-    (d .0, (e .0, e .1 ∙ ap stringBytes (read-written n h)))
+    (d .0, (e .0 ∙ ap (λ (b : ℕ). Read (polarityBy b)) (first-written n h), e .1 ∙ ap stringBytes (read-written n h)))
 
--- a reading goes by the shape and by what is read
-reads-by : (s t out : List ℕ) (r : Written) (out′ : List ℕ) → misshapen s ≡ misshapen t → readRelative (numberOf s) ≡ readRelative (numberOf t)
-    → ReadsRelative s out r out′ → ReadsRelative t out r out′
+-- the inverse has the other polarity
+pub first-turned : (x : ℕ) → firstSymbol (inverse x) ≡ (firstSymbol x + 1) % 2
+unfolding firstSymbol
+first-turned x = bit-inverse x 85 (lit≤ tt) (lit≤ tt)
+
+turned-number : (p : Polarity) → polarityNumber (turned p) ≡ (polarityNumber p + 1) % 2
+turned-number Upright = refl
+turned-number Inverted = refl
+
+pub polarity-turned : (x : ℕ) → polarityOf (inverse x) ≡ turned (polarityOf x)
+polarity-turned x =
+    polarity-same (polarityOf (inverse x)) (turned (polarityOf x))
+    (polarity-told (inverse x) ∙ first-turned x ∙ ap (λ (b : ℕ). (b + 1) % 2) (sym (polarity-told x)) ∙ sym (turned-number (polarityOf x)))
+
+-- A STRING AND ITS INVERSE ARE ANSWERED ALIKE BUT FOR THE POLARITY, and leave the same bytes
+turned-said : (r : Decoded) (b k : ℕ) (place : List ℕ) → decodedPaper r ≡ saidBy k place (b ∷ [])
+    → decodedPaper (otherWay r) ≡ saidBy k place ((b + 1) % 2 ∷ [])
+turned-said (Read p) b zero place e =
+    let n : polarityNumber p ≡ b = ap (λ (l : List ℕ). getD l 1 0) e in
+    ap (λ (c : ℕ). 0 ∷ c ∷ []) (turned-number p ∙ ap (λ (c : ℕ). (c + 1) % 2) n)
+turned-said (Refused q) b zero place e = absurd (not-taken q _ e)
+turned-said (Read p) b (suc k) place e = let z : _≡_ {A = ℕ} 0 (suc k) = ap (λ (l : List ℕ). getD l 0 0) e in absurd (omega arith)
+turned-said (Refused q) b (suc k) place e = e
+
+-- a reading goes by the shape, by what is read and by the first symbol
+reads-turned : (s t out : List ℕ) (r : Decoded) (out′ : List ℕ) → misshapen s ≡ misshapen t → readRelative (numberOf s) ≡ readRelative (numberOf t)
+    → firstSymbol (numberOf t) ≡ (firstSymbol (numberOf s) + 1) % 2 → ReadsRelative s out r out′ → ReadsRelative t out (otherWay r) out′
 unfolding ReadsRelative
-reads-by s t out r out′ e f a = rw (← e, ← f) a
+reads-turned s t out r out′ e f g a =
+    record {
+      answer = rw (← e, g) (turned-said r (firstSymbol (numberOf s)) (firstOf (readingTests s out)) (placeOf (readingTests s out)) (a .answer));
+      output = rw (← e, ← f) (a .output);
+    }
 
--- a string and its inverse are answered alike, and leave the same bytes
-pub inverse-reads-alike : (x : ℕ) → x < 2 ^ 85 → (out : List ℕ) (r q : Written) (out′ out″ : List ℕ)
-    → ReadsRelative (stringBytes x) out r out′ → ReadsRelative (stringBytes (inverse x)) out q out″ → (r ≡ q) × (out′ ≡ out″)
+pub inverse-reads-alike : (x : ℕ) → x < 2 ^ 85 → (out : List ℕ) (r q : Decoded) (out′ out″ : List ℕ)
+    → ReadsRelative (stringBytes x) out r out′ → ReadsRelative (stringBytes (inverse x)) out q out″ → (q ≡ otherWay r) × (out″ ≡ out′)
 inverse-reads-alike x h out r q out′ out″ a b =
     let y = inverse x in
     let g = inverse-lt x h in
-    reads-once (stringBytes x) out r out′ q out″ a
-    (reads-by (stringBytes y) (stringBytes x) out q out″ (string-shaped y g ∙ sym (string-shaped x h))
-    (ap readRelative (string-number y g) ∙ inverse-alike x h ∙ ap readRelative (sym (string-number x h))) b)
-
--- symbols, read and then written, are the same symbols or the same inverted
-pub read-then-written : (x : ℕ) → x < 2 ^ 85 → (out back : List ℕ) → length out ≡ 11 → length back ≡ 11
-    → (r q : Written) (out′ back′ : List ℕ) → ReadsRelative (stringBytes x) out r out′ → WritesRelative out′ back q back′
-    → (r ≡ Done) × ((q ≡ Done) × ((back′ ≡ stringBytes x) ⊎ (back′ ≡ stringBytes (inverse x))))
-read-then-written x h out back l m r q out′ back′ a b =
-    let y = readRelative x in
-    let d = reads-once (stringBytes x) out r out′ Done (stringBytes y) a (reads-string x out h l) in
-    let e = writes-once (stringBytes y) back q back′ Done (stringBytes (writeRelative y))
-    (subst (λ (s : List ℕ). WritesRelative s back q back′) (d .1) b) (writes-string y back (read-lt x) m) in
-    (d .0, (e .0, ⊎-elim (λ p. inl (e .1 ∙ ap stringBytes p)) (λ p. inr (e .1 ∙ ap stringBytes p)) (written-read x h)))
+    reads-once (stringBytes y) out q out″ (otherWay r) out′ b
+    (reads-turned (stringBytes x) (stringBytes y) out r out′ (string-shaped x h ∙ sym (string-shaped y g))
+    (ap readRelative (string-number x h) ∙ sym (inverse-alike x h) ∙ ap readRelative (sym (string-number y g)))
+    (ap firstSymbol (string-number y g) ∙ first-turned x ∙ ap (λ (z : ℕ). (firstSymbol z + 1) % 2) (sym (string-number x h))) a)

@@ -1,4 +1,5 @@
 pub mod Relative
+pub mod Polarity
 pub mod Calls
 pub mod Orders
 pub mod Known

@@ -1,4 +1,6 @@
 // Reading a string from its symbols, and writing it as its symbols.
+use crate::Decoded;
+use crate::Polarity;
 use strings::Refusal;
 use strings::Written;
 use strings::bit;
@@ -10,20 +12,43 @@ ghost use mathlib.Core.Bool.{false};
 ghost use lib.ListN.{length};
 ghost use Rattle.strings.specs.Number.{numberOf, misshapen, stringBytes};
 ghost use Rattle.relative.specs.Relative.{readRelative, writeRelative};
+ghost use Rattle.relative.specs.Polarity.{polarityOf, polarityNumber};
 ghost use Rattle.relative.specs.Calls.{ReadsRelative, WritesRelative};
 
-// Reads a string from its symbols, and writes it plain.
-pub fn from_relative(s: &[u8], out: &mut [u8]) -> Written
+// Reads a string from its symbols, and writes it plain. The answer tells which way up they came.
+pub fn from_relative(s: &[u8], out: &mut [u8]) -> Decoded
     ensures { λ r. ⌜ ReadsRelative (now (s .entry)) (now (out .entry)) r (now (out .exit)) ⌝ }
 {
     if out.len() != 11 {
-        return Written::Refused(Refusal::Room);
+        return Decoded::Refused(Refusal::Room);
     }
     if !well_shaped(s) {
-        return Written::Refused(Refusal::Shape);
+        return Decoded::Refused(Refusal::Shape);
     }
     read_symbols(s, out);
-    Written::Done
+    Decoded::Read(polarity_in(s))
+}
+
+// Only the first symbol, the one in the place of bit 85, shows the polarity: bit 85 itself is 0.
+pub fn polarity_in(s: &[u8]) -> Polarity
+    requires { ⌜ length (now s) ≡ 11 ⌝ }
+    ensures { λ r. ⌜ r ≡ polarityOf (numberOf (now (s .entry))) ⌝ }
+{
+    if bit(s, 85) == 0 {
+        Polarity::Upright
+    } else {
+        Polarity::Inverted
+    }
+}
+
+// A polarity in one number.
+pub fn polarity_number(p: Polarity) -> u8
+    ensures { λ r. ⌜ r ≡ polarityNumber p ⌝ }
+{
+    match p {
+        Polarity::Upright => 0,
+        Polarity::Inverted => 1,
+    }
 }
 
 // Writes a plain string as its symbols. Its idle bit must be 0.

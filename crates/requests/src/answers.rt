@@ -4,6 +4,8 @@ use crate::line::put_hex;
 use crate::line::put_next;
 use crate::line::put_text;
 use crate::words_told::put_record;
+use relative::Decoded;
+use relative::polarity_number;
 use strings::Checked;
 use strings::Refusal;
 use strings::Verdict;
@@ -58,6 +60,20 @@ pub(crate) fn say_written(text: &mut Text, w: Written, out: &[u8]) -> usize
         Written::Done => {
             let hex = put_text(text, 0, b"ok ");
             put_hex(text, hex, out)
+        }
+    }
+}
+
+// `ok HEX P`, P 0 where the symbols came upright and 1 where inverted.
+pub(crate) fn say_decoded(text: &mut Text, d: Decoded, out: &[u8]) -> usize
+    ensures { λ n. ⌜ n ≤ 512 ⌝ }
+{
+    match d {
+        Decoded::Refused(r) => say_no(text, r),
+        Decoded::Read(p) => {
+            let hex = put_text(text, 0, b"ok ");
+            let polarity = put_hex(text, hex, out);
+            put_next(text, polarity, polarity_number(p) as u64)
         }
     }
 }

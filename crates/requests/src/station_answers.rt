@@ -14,6 +14,7 @@ use channel::Answer;
 use channel::News;
 use records::ImmediateWords;
 use records::Record;
+use relative::polarity_number;
 use station::EntryFound;
 use station::Health;
 use station::HealthFound;
@@ -23,17 +24,19 @@ use strings::Written;
 use tallies::Tallies;
 ghost use Prim.Native.Nat.{_≤_};
 
-// `taken M BIT NEWS`, BIT 0 where the string was clean.
+// `taken M BIT NEWS P`, BIT 0 where the string was clean, P 0 where its symbols came upright and 1 where
+// inverted.
 pub(crate) fn say_offered(text: &mut Text, a: Answer) -> usize
     ensures { λ n. ⌜ n ≤ 512 ⌝ }
 {
     match a {
         Answer::Refused(r) => say_no(text, r),
-        Answer::Taken(m, v, news) => {
+        Answer::Taken(m, v, news, polarity) => {
             let taken = put_text(text, 0, b"taken");
             let number = put_next(text, taken, m as u64);
             let bit = put_next(text, number, bit_of(v) as u64);
-            put_next(text, bit, news_number(news) as u64)
+            let told = put_next(text, bit, news_number(news) as u64);
+            put_next(text, told, polarity_number(polarity) as u64)
         }
     }
 }

@@ -1,6 +1,7 @@
 // Requests 1 to 3: to and from the relative code, and the check.
 use crate::answers::say_bad;
 use crate::answers::say_checked;
+use crate::answers::say_decoded;
 use crate::answers::say_written;
 use crate::line::Text;
 use strings::wide;
@@ -24,8 +25,8 @@ fn string_into(op: u8, s: &[u8], out: &mut [u8], text: &mut Text) -> usize
 {
     match op {
         1 => {
-            let w = relative::from_relative(s, out);
-            say_written(text, w, out)
+            let d = relative::from_relative(s, out);
+            say_decoded(text, d, out)
         }
         2 => {
             let w = relative::to_relative(s, out);

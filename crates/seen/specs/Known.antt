@@ -13,8 +13,12 @@ use Rattle.strings.specs.Number.{numberOf, paddingOf, misshapen, wordOf, flip, 
 use Rattle.strings.specs.Hamming.{position, sumC, sumAll, syndrome, sumsSet, highest, placed, judge, ruling, mended, sumsMade, encode}
 use Rattle.strings.specs.Numbers.{refusalPaper}
 use Rattle.strings.specs.Calls.{soundTests}
-use Rattle.relative.specs.Relative.{readRelative, writeRelative}
-use Rattle.channel.specs.declared.Answer.the-variants.{Refused}
+use Rattle.relative.specs.declared.Polarity.the-variants.{Upright, Inverted}
+use Rattle.relative.specs.Relative.{readRelative, writeRelative, inverse}
+use Rattle.relative.specs.Polarity.{firstSymbol}
+use Rattle.strings.specs.declared.Verdict.the-variants.{Repaired}
+use Rattle.channel.specs.declared.News.the-variants.{Kept}
+use Rattle.channel.specs.declared.Answer.the-variants.{Taken, Refused}
 use Rattle.seen.specs.Seen.{seen, seenIn, comesBeforeVerdict, seenBy}
 
 -- ---- strings as they are sent
@@ -41,15 +45,23 @@ oneOutside = sent (flip (flip (flip (encode (2 ^ 80)) 84) 3) 8)
 abbrev pub oneIdle : List ℕ
 oneIdle = sent (encode (2 ^ 84 + 2 ^ 80))
 
+-- with all 85 symbols inverted
+abbrev pub inverted : List ℕ → List ℕ
+inverted s = stringBytes (inverse (numberOf s))
+
 pub record Known : Type 0 where
   -- the repaired bit is told after NUMBER, and there m is 0; after STALE both are
-  pub number : seenBy (Refused Number) zeroRepaired ≡ seen 9 0
-  pub stale : seenBy (Refused Stale) oneRepaired ≡ seen 9 1
+  pub number : seenBy (Refused Number) zeroRepaired ≡ seen 9 0 0
+  pub stale : seenBy (Refused Stale) oneRepaired ≡ seen 9 1 0
+  -- no refusal tells a polarity: the same string inverted is seen as it was; a taken one tells it
+  pub stale-inverted : seenBy (Refused Stale) (inverted oneRepaired) ≡ seen 9 1 0
+  pub taken : seenBy (Taken 1 (Repaired 9) Kept Upright) oneRepaired ≡ seen 9 1 0
+  pub taken-inverted : seenBy (Taken 1 (Repaired 9) Kept Inverted) (inverted oneRepaired) ≡ seen 9 1 1
   -- after DAMAGED, by each of its causes, and after IDLE neither is
-  pub unplaced : seenBy (Refused (Damaged Unplaced)) oneUnplaced ≡ seen 0 0
-  pub even : seenBy (Refused (Damaged Even)) oneEven ≡ seen 0 0
-  pub outside : seenBy (Refused (Damaged Outside)) oneOutside ≡ seen 0 0
-  pub idle : seenBy (Refused Idle) oneIdle ≡ seen 0 0
+  pub unplaced : seenBy (Refused (Damaged Unplaced)) oneUnplaced ≡ seen 0 0 0
+  pub even : seenBy (Refused (Damaged Even)) oneEven ≡ seen 0 0 0
+  pub outside : seenBy (Refused (Damaged Outside)) oneOutside ≡ seen 0 0 0
+  pub idle : seenBy (Refused Idle) oneIdle ≡ seen 0 0 0
   -- "number 1..4", where "the listing's zeros treat each as 3" of 31 to 33
   pub before-verdict : (q : Refusal) → comesBeforeVerdict q ≡ isOneOf (1 ∷ 2 ∷ 31 ∷ 32 ∷ 33 ∷ 4 ∷ []) (getD (refusalPaper q) 0 0)
 
@@ -72,5 +84,17 @@ by-number Nothing = refl
 by-number Slot = refl
 
 pub known : Known
-unfolding soundTests numberOf paddingOf misshapen wordOf flip stringBytes position sumC sumAll syndrome sumsSet highest placed judge ruling mended sumsMade encode readRelative writeRelative seenIn seenBy
-known = record { number = refl; stale = refl; unplaced = refl; even = refl; outside = refl; idle = refl; before-verdict = by-number }
+unfolding soundTests numberOf paddingOf misshapen wordOf flip stringBytes position sumC sumAll syndrome sumsSet highest placed judge ruling mended sumsMade encode readRelative writeRelative inverse firstSymbol seenIn seenBy
+known =
+    record {
+      number = refl;
+      stale = refl;
+      stale-inverted = refl;
+      taken = refl;
+      taken-inverted = refl;
+      unplaced = refl;
+      even = refl;
+      outside = refl;
+      idle = refl;
+      before-verdict = by-number;
+    }

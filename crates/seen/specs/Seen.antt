@@ -11,6 +11,7 @@ use Rattle.strings.specs.declared.Verdict.{Verdict}
 use Rattle.strings.specs.declared.Verdict.the-variants.{Clean, Repaired}
 use Rattle.strings.specs.Numbers.{firstOf}
 use Rattle.words.specs.Calls.{numberIn}
+use Rattle.relative.specs.Polarity.{polarityNumber}
 use Rattle.channel.specs.declared.Answer.{Answer}
 use Rattle.channel.specs.declared.Answer.the-variants.{Taken, Refused}
 use Rattle.hearing.specs.Hears.{wholeOf, verdictIn, hearTests}
@@ -21,16 +22,16 @@ abbrev pub bitIn : Verdict → ℕ
 bitIn Clean = 0
 bitIn (Repaired i) = i
 
-abbrev pub seen : ℕ → ℕ → Seen
-seen bit m = record { repaired = bit; m = m }
+abbrev pub seen : ℕ → ℕ → ℕ → Seen
+seen bit m polarity = record { repaired = bit; m = m; polarity = polarity }
 
 -- 2 to 4 let the string pass
 abbrev pub isHeard : List ℕ → Bool
 isHeard s = eqb (firstOf (hearTests s)) 0
 
--- of one that they refuse, nothing is seen
+-- of one that they refuse, nothing is seen; of one that is refused later, the bit and m
 unfoldable pub seenIn : List ℕ → Seen
-seenIn s = pick (isHeard s) (seen (bitIn (verdictIn s)) (numberIn (wholeOf s))) (seen 0 0)
+seenIn s = pick (isHeard s) (seen (bitIn (verdictIn s)) (numberIn (wholeOf s)) 0) (seen 0 0 0)
 
 -- 1 to 4, by cases; 31 to 33 stand in 3's position
 abbrev pub comesBeforeVerdict : Refusal → Bool
@@ -51,5 +52,5 @@ comesBeforeVerdict Slot = false
 
 -- of a string with this answer
 unfoldable pub seenBy : Answer → List ℕ → Seen
-seenBy (Taken m v w) s = seen (bitIn v) m
-seenBy (Refused q) s = pick (comesBeforeVerdict q) (seen 0 0) (seenIn s)
+seenBy (Taken m v w p) s = seen (bitIn v) m (polarityNumber p)
+seenBy (Refused q) s = pick (comesBeforeVerdict q) (seen 0 0 0) (seenIn s)

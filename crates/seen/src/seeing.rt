@@ -1,8 +1,9 @@
-// What a line tells of an offer: its number, the bit that the check repaired, and m. A taken offer
-// tells them; a refusal carries its number alone, so the string of a refused one is read and checked
-// again.
+// What a line tells of an offer: its number, the bit that the check repaired, m, and the polarity. A
+// taken offer tells them; a refusal carries its number alone, so the string of a refused one is read
+// and checked again. Its polarity is not told.
 use channel::Answer;
 use hearing::hear;
+use relative::polarity_number;
 use strings::Checked;
 use strings::Refusal;
 use strings::Verdict;
@@ -14,6 +15,7 @@ ghost use Rattle.seen.specs.Seen.{bitIn, seen, seenIn, comesBeforeVerdic
 pub struct Seen {
     pub repaired: u8,
     pub m: u8,
+    pub polarity: u8,
 }
 
 // The number of an answer, 0 where the string is taken.
@@ -21,7 +23,7 @@ pub fn number_told(a: Answer) -> u8
     ensures { λ r. ⌜ r ≡ getD (answerPaper a) 0 0 ⌝ }
 {
     match a {
-        Answer::Taken(_, _, _) => 0,
+        Answer::Taken(_, _, _, _) => 0,
         Answer::Refused(why) => strings::refusal_number(why),
     }
 }
@@ -31,9 +33,10 @@ pub fn seen_by(a: Answer, s: &[u8]) -> Seen
     ensures { λ r. ⌜ r ≡ seenBy a (now (s .entry)) ⌝ }
 {
     match a {
-        Answer::Taken(m, v, _) => Seen {
+        Answer::Taken(m, v, _, p) => Seen {
             repaired: bit_in(v),
             m,
+            polarity: polarity_number(p),
         },
         Answer::Refused(why) => seen_after(why, s),
     }
@@ -71,7 +74,7 @@ fn comes_before_verdict(why: Refusal) -> bool
     }
 }
 
-// What is heard of a string shows both.
+// What is heard of a string shows the bit and m.
 fn see(s: &[u8]) -> Seen
     ensures { λ r. ⌜ r ≡ seenIn (now (s .entry)) ⌝ }
 {
@@ -82,14 +85,19 @@ fn see(s: &[u8]) -> Seen
         Checked::Taken(v) => Seen {
             repaired: bit_in(v),
             m: words::number_in(&whole),
+            polarity: 0,
         },
     }
 }
 
 fn nothing() -> Seen
-    ensures { λ r. ⌜ r ≡ seen 0 0 ⌝ }
+    ensures { λ r. ⌜ r ≡ seen 0 0 0 ⌝ }
 {
-    Seen { repaired: 0, m: 0 }
+    Seen {
+        repaired: 0,
+        m: 0,
+        polarity: 0,
+    }
 }
 
 // The bit that a verdict names, 0 where it names none.

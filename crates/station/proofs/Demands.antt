@@ -48,6 +48,7 @@ use Rattle.station.proofs.EveryHistory.{every-history}
 use Rattle.station.proofs.EveryCall.{station-answers, strings-answer, station-numbers, string-numbers, no-output-byte}
 use Rattle.station.proofs.Gathered.{checking, again, encoding, relative, by-name, ranges, round-trips}
 use Rattle.station.proofs.Sent.{heard-as-sent}
+use Rattle.station.proofs.EitherWay.{either-way, histories-alike}
 use Rattle.station.proofs.BookRule.{empty-exactly, greatest-there}
 use Rattle.station.proofs.Reorder.{offer-said, reset-said, same-book}
 use Rattle.station.proofs.WellMade.{runs-made}
@@ -245,6 +246,8 @@ demands =
       encoding = encoding;
       relative = relative;
       sent = heard-as-sent;
+      either-way = either-way;
+      histories-alike = histories-alike;
       by-name = by-name;
       ranges = ranges;
       round-trips = round-trips;

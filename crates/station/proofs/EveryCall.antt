@@ -22,9 +22,12 @@ use Rattle.strings.specs.Hamming.{ruling, isDamaged, mended}
 use Rattle.strings.specs.Numbers.{test, firstOf, leftBy, answerOf}
 use Rattle.strings.specs.Calls.{noRoom, checkedPaper, soundTests, stringTests, checkTests, verdictTold, Checks}
 use Rattle.strings.proofs.CheckRule.{check-once, check-first, check-numbers}
+use Rattle.relative.specs.declared.Decoded.{Decoded}
+use Rattle.relative.specs.declared.Decoded.the-variants.{Read as Decode, Refused as NotDecoded}
 use Rattle.relative.specs.Relative.{readRelative, writeRelative}
+use Rattle.relative.specs.Polarity.{firstSymbol, polarityOf}
 use Rattle.relative.specs.Calls.{readingTests, ReadsRelative, writingTests, WritesRelative}
-use Rattle.relative.proofs.RelativeCode.{reads-once, writes-once, reads-exactly, writes-exactly}
+use Rattle.relative.proofs.RelativeCode.{polarity-told, reads-once, writes-once, reads-exactly, writes-exactly}
 use Rattle.records.specs.declared.kinds.Kind.{Kind}
 use Rattle.records.specs.declared.named.Record.{Record}
 use Rattle.records.specs.Records.{kindOf, listOf, recordOf}
@@ -158,16 +161,18 @@ module _ (s out : List ℕ) where
       ⊎-elim (λ (z : firstOf ts ≡ 0). let v = verdict-there z in so (v .0) (v .1 ∙ taken-says ts told z)) (λ (f : Fitting ts). so (Refused (f .refusal)) (f .says told))
       (settles ts tt)
 
-  reading-one : OneAnswer (Written × List ℕ) (λ r. ReadsRelative s out (r .0) (r .1))
+  reading-one : OneAnswer (Decoded × List ℕ) (λ r. ReadsRelative s out (r .0) (r .1))
   unfolding ReadsRelative
   reading-one =
       let ts = readingTests s out in
       let left = leftBy (firstOf ts) (stringBytes (readRelative (numberOf s))) out in
-      let so : (r : Written) → _ → OneAnswer (Written × List ℕ) (λ r. ReadsRelative s out (r .0) (r .1)) =
-      λ r e. one (Written × List ℕ) (λ r. ReadsRelative s out (r .0) (r .1)) (λ r q a b. pair (reads-once s out (r .0) (r .1) (q .0) (q .1) a b)) (r, left) (record { answer = e; output = refl })
+      let told = firstSymbol (numberOf s) ∷ [] in
+      let so : (r : Decoded) → _ → OneAnswer (Decoded × List ℕ) (λ r. ReadsRelative s out (r .0) (r .1)) =
+      λ r e. one (Decoded × List ℕ) (λ r. ReadsRelative s out (r .0) (r .1)) (λ r q a b. pair (reads-once s out (r .0) (r .1) (q .0) (q .1) a b)) (r, left) (record { answer = e; output = refl })
       in
-      ⊎-elim (λ (z : firstOf ts ≡ 0). so Done (taken-says ts [] z)) (λ (f : Fitting ts). so (NotWritten (f .refusal)) (f .says []))
-      (settles ts tt)
+      ⊎-elim
+      (λ (z : firstOf ts ≡ 0). so (Decode (polarityOf (numberOf s))) (ap (λ (b : ℕ). 0 ∷ b ∷ []) (polarity-told (numberOf s)) ∙ taken-says ts told z))
+      (λ (f : Fitting ts). so (NotDecoded (f .refusal)) (f .says told)) (settles ts tt)
 
   sending-one : OneAnswer (Written × List ℕ) (λ r. WritesRelative s out (r .0) (r .1))
   unfolding WritesRelative
@@ -234,7 +239,7 @@ unfolding Checks ReadsRelative WritesRelative Writes
 no-output-byte =
     record {
       check = λ s out why out′ a. untouched (checkTests s out) (verdictTold (ruling (numberOf s))) (stringBytes (mended (numberOf s))) out why out′ a;
-      from-relative = λ s out why out′ a. untouched (readingTests s out) [] (stringBytes (readRelative (numberOf s))) out why out′ a;
+      from-relative = λ s out why out′ a. untouched (readingTests s out) (firstSymbol (numberOf s) ∷ []) (stringBytes (readRelative (numberOf s))) out why out′ a;
       to-relative = λ s out why out′ a. untouched (writingTests s out) [] (stringBytes (writeRelative (numberOf s))) out why out′ a;
       write = λ m w out why out′ a. untouched (writeTests m w out) [] (stringBytes (stringOf m w)) out why out′ a;
     }

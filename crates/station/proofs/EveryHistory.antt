@@ -1,9 +1,9 @@
 -- Every history can be run (every-history): whatever the calls, there is an answer to each that its contract fits, so the laws of runs are of all
 -- histories.
 -- Assumes nothing.
-use mathlib.Core.Path.{_≡_, refl}
+use mathlib.Core.Path.{_≡_, refl, sym, ap, _∙_}
 use mathlib.Core.Bool.{Bool, true, false}
-use mathlib.Core.List.{List, [], _∷_}
+use mathlib.Core.List.{List, [], _∷_, _++_}
 use mathlib.Core.Logic.{⊎-elim}
 use Prim.Native.Nat.{ℕ}
 use lib.Dec.{T}
@@ -15,12 +15,16 @@ use Rattle.strings.specs.declared.Written.the-variants.{Done, Refused as NotWri
 use Rattle.strings.specs.Numbers.{Test, test, firstOf, answerOf}
 use Rattle.strings.specs.Calls.{writtenPaper, soundTests}
 use Rattle.words.specs.Calls.{numberIn}
+use Rattle.strings.specs.Number.{numberOf}
+use Rattle.relative.specs.declared.Polarity.{Polarity}
+use Rattle.relative.specs.Polarity.{polarityOf, polarityNumber}
 use Rattle.channel.specs.declared.News.{News}
 use Rattle.channel.specs.declared.Answer.{Answer}
 use Rattle.channel.specs.declared.Answer.the-variants.{Taken, Refused}
 use Rattle.channel.specs.Frame.{newsOf}
 use Rattle.hearing.specs.Hears.{wholeOf, verdictIn}
 use Rattle.channel.specs.Offers.{answerPaper, toldAs}
+use Rattle.channel.proofs.EitherWay.{polarity-in}
 use Rattle.station.specs.declared.Station.{Station}
 use Rattle.station.specs.Station.{heldAt, isNoChannel, stationTests, toldIn, stationAfter, OffersTo, stationReset, Resets}
 use Rattle.station.specs.History.{Call, Offer, Reset, Runs, fresh, offering, resetting, stationOf}
@@ -31,16 +35,18 @@ pub record Told (ts : List Test) (told : List ℕ) : Type 0 where
   pub answer : Answer
   pub is : answerPaper answer ≡ answerOf ts told
 
-told-by : (m : ℕ) (v : Verdict) (w : News) (ts : List Test) → T (named ts) → Told ts (toldAs m v w)
-told-by m v w ts a =
-    ⊎-elim (λ (z : firstOf ts ≡ 0). record { answer = Taken m v w; is = taken-says ts (toldAs m v w) z })
-    (λ (f : Fitting ts). record { answer = Refused (f .refusal); is = f .says (toldAs m v w) }) (settles ts a)
+told-by : (m : ℕ) (v : Verdict) (w : News) (p : Polarity) (told : List ℕ) → told ≡ toldAs m v w ++ (polarityNumber p ∷ [])
+    → (ts : List Test) → T (named ts) → Told ts told
+told-by m v w p told e ts a =
+    ⊎-elim (λ (z : firstOf ts ≡ 0). record { answer = Taken m v w p; is = ap (λ (l : List ℕ). 0 ∷ l) (sym e) ∙ taken-says ts told z })
+    (λ (f : Fitting ts). record { answer = Refused (f .refusal); is = f .says told }) (settles ts a)
 
 -- ---- an offer has an answer, and so has a reset
 pub some-answer : (st : Station) (c epoch : ℕ) (s : List ℕ) → Told (stationTests st c epoch s) (toldIn st c epoch s)
 unfolding soundTests
 some-answer st c epoch s =
-    told-by (numberIn (wholeOf s)) (verdictIn s) (newsOf (heldAt st c) epoch (wholeOf s)) (stationTests st c epoch s) tt
+    told-by (numberIn (wholeOf s)) (verdictIn s) (newsOf (heldAt st c) epoch (wholeOf s)) (polarityOf (numberOf s)) (toldIn st c epoch s)
+    (polarity-in (heldAt st c) epoch s) (stationTests st c epoch s) tt
 
 pub offer-answers : (st : Station) (c epoch : ℕ) (s : List ℕ)
     → OffersTo st c epoch s (record { station = stationAfter st c epoch s; answer = some-answer st c epoch s .answer })

@@ -13,7 +13,7 @@ use Rattle.strings.specs.Number.{numberOf}
 use Rattle.strings.specs.Hamming.{Encoded, mended}
 use Rattle.strings.proofs.Encode.{encode-encoded, encode-stays, encode-lt, encoded-once}
 use Rattle.strings.proofs.CheckRule.{encoded-clean, idle-refused, bit-8-damaged, one-flip-repaired, one-flip-idle, two-flips-damaged, checked-again}
-use Rattle.relative.proofs.RelativeCode.{written-then-read as sent-then-read, read-then-written as read-then-sent, inverse-reads-alike}
+use Rattle.relative.proofs.RelativeCode.{written-then-read as sent-then-read, polarity-means, inverse-reads-alike}
 use Rattle.records.specs.declared.kinds.Kind.{Kind}
 use Rattle.records.specs.declared.kinds.Kind.the-variants.{One, Two, Three, Four, Five, Even, Odd, Fourteen}
 use Rattle.records.specs.Records.{kindOf, listOf}
@@ -49,7 +49,7 @@ encoding n h =
     record { encoded = encode-encoded n; small = encode-lt n h; data-stand = encode-stays n; only = λ k l e q. encoded-once n k h l e q }
 
 pub relative : Relative
-relative = record { written-read = sent-then-read; read-written = read-then-sent; inverse-alike = inverse-reads-alike }
+relative = record { written-read = sent-then-read; read-written = polarity-means; inverse-alike = inverse-reads-alike }
 
 -- ---- words
 pub by-name : ByName

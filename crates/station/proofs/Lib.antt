@@ -16,6 +16,7 @@ pub mod Channels
 pub mod Gathered
 pub mod WellMade
 pub mod Exchange
+pub mod EitherWay
 pub mod Tallied
 pub mod Relock
 pub mod Demands

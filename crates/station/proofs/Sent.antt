@@ -4,8 +4,8 @@
 use mathlib.Core.Path.{_≡_, refl, sym, ap, ap₂, _∙_}
 use mathlib.Core.Bool.{Bool, true, false, _&&_, _||_}
 use mathlib.Core.List.{List, [], _∷_, _++_}
-use mathlib.Core.Logic.{⊎-elim}
-use Prim.Native.Nat.{ℕ, _-_, _%_, _^_, _≤_, _<_}
+use mathlib.Core.Logic.{⊎-elim, inl, inr}
+use Prim.Native.Nat.{ℕ, _+_, _-_, _%_, _^_, _≤_, _<_}
 use native.Mathlib.Omega.{arith}
 use borrow.Author.Tests.{eq-eqb, ne-eqb, eqb-true, le-ltb}
 use lib.Dec.{eqb, ltb, leb, lit≤}
@@ -16,7 +16,7 @@ use Rattle.strings.specs.declared.Verdict.the-variants.{Clean, Repaired}
 use Rattle.strings.specs.declared.hamming.Ruling.the-variants.{Sound, Damaged}
 use Rattle.strings.specs.declared.hamming.Damage.{Damage}
 use Rattle.strings.specs.declared.hamming.Damage.the-variants.{Unplaced, Even, Outside}
-use Rattle.strings.specs.Number.{bitOf, misshapen, flip}
+use Rattle.strings.specs.Number.{bitOf, numberOf, misshapen, flip}
 use Rattle.strings.specs.Hamming.{ruling, isDamaged}
 use Rattle.strings.specs.Numbers.{damageNumber, verdictPaper, firstOf, placeOf, saidBy}
 use Rattle.strings.specs.Calls.{isIdle}
@@ -27,7 +27,8 @@ use Rattle.strings.proofs.Judge.{mended-by}
 use Rattle.strings.proofs.SoundTests.{damaged-says}
 use Rattle.strings.proofs.Flips.{encoded-ruling, one-flip-ruling, bit-8-ruling, two-flips-ruling}
 use Rattle.relative.specs.Relative.{writeRelative, readRelative, inverse}
-use Rattle.relative.proofs.RelativeCode.{read-written, written-lt, inverse-lt, inverse-alike}
+use Rattle.relative.specs.Polarity.{firstSymbol}
+use Rattle.relative.proofs.RelativeCode.{read-written, written-lt, inverse-lt, inverse-alike, first-written, first-turned}
 use Rattle.hearing.specs.Hears.{plainOf, wholeOf, hearTests}
 use Rattle.hearing.proofs.Hearing.{heard-then}
 use Rattle.book.specs.declared.Book.{Book}
@@ -43,7 +44,7 @@ use Rattle.station.specs.declared.Stepped.{Stepped}
 use Rattle.station.specs.declared.TalliesFound.{TalliesFound}
 use Rattle.station.specs.Station.{channels, lastChannel, noRow, rowAt, heldAt, isNoChannel, toldIn, bookAfter, stationAfter, OffersTo}
 use Rattle.station.specs.Queries.{fourCounts, talliesPaper, FindsTallies}
-use Rattle.station.specs.Sent.{SentString, mOf, SentAs, IsBit, Awaits, talliesAt, SameButVerdict, HeardAsSent}
+use Rattle.station.specs.Sent.{SentString, mOf, SentAs, SentWith, IsBit, Awaits, talliesAt, SameButVerdict, HeardAsSent}
 
 -- ---- upright or inverted, a string has its shape and is read as it was
 module _ (k : ℕ) (s : List ℕ) (h : k < 2 ^ 84) (e : SentAs k s) where
@@ -57,6 +58,18 @@ module _ (k : ℕ) (s : List ℕ) (h : k < 2 ^ 84) (e : SentAs k s) where
       let w = writeRelative k in
       ⊎-elim (λ p. ap plainOf p ∙ ap readRelative (string-number w (written-lt k)) ∙ read-written k h)
       (λ p. ap plainOf p ∙ ap readRelative (string-number (inverse w) (inverse-lt w (written-lt k))) ∙ inverse-alike w (written-lt k) ∙ read-written k h) e
+
+-- which of the two it is, its first symbol shows
+module _ (k : ℕ) (s : List ℕ) (p : ℕ) (h : k < 2 ^ 84) (e : SentWith k s p) where
+  sent-as : SentAs k s
+  sent-as = ⊎-elim (λ u. inl (u .0)) (λ u. inr (u .0)) e
+
+  sent-first : firstSymbol (numberOf s) ≡ p
+  sent-first =
+      let w = writeRelative k in
+      ⊎-elim (λ u. ap (λ (l : List ℕ). firstSymbol (numberOf l)) (u .0) ∙ ap firstSymbol (string-number w (written-lt k)) ∙ first-written k h ∙ sym (u .1))
+      (λ u. ap (λ (l : List ℕ). firstSymbol (numberOf l)) (u .0) ∙ ap firstSymbol (string-number (inverse w) (inverse-lt w (written-lt k)))
+      ∙ first-turned w ∙ ap (λ (b : ℕ). (b + 1) % 2) (first-written k h) ∙ sym (u .1)) e
 
 -- ---- what the check says of it
 -- bytes that the check leaves as n with the verdict v
@@ -138,8 +151,8 @@ module _ (st : Station) (c epoch n : ℕ) (a : Awaits st c epoch n) (idle : bitO
   passes =
       heard-then s (placeTests (frameOf row) epoch (wholeOf s)) (w .shape) (record { sound = ap isDamaged (w .rules); idle = ap isIdle (w .whole) ∙ not-idle })
 
-  -- taken, and kept
-  taken : (r : Stepped) → OffersTo st c epoch s r → answerPaper (r .answer) ≡ 0 ∷ mOf n ∷ (verdictPaper v ++ (1 ∷ []))
+  -- taken, kept, and told with the first symbol
+  taken : (r : Stepped) → OffersTo st c epoch s r → answerPaper (r .answer) ≡ 0 ∷ mOf n ∷ ((verdictPaper v ++ (1 ∷ [])) ++ (firstSymbol (numberOf s) ∷ []))
   taken r o = o .answer ∙ rw (is-served c (a .served), passes .0, passes .1, w .rules, w .whole, not-zero, in-time, holds-none, not-four (mOf n))
 
   -- the row and the book that it leaves
@@ -203,8 +216,14 @@ same-left st c epoch n g i s t q r long a b ne e o f p =
 pub heard-as-sent : (st : Station) (c epoch n : ℕ) → SentString n → HeardAsSent st c epoch n
 heard-as-sent st c epoch n g =
     record {
-      clean = λ s r a e o. taken st c epoch n a (g .idle) s Clean (left-clean n g s e) r o;
-      one-flip = λ i s r a b ne e o. taken st c epoch n a (g .idle) s (Repaired i) (left-repaired n g i b s ne e) r o;
+      clean = λ s p r a e o.
+          taken st c epoch n a (g .idle) s Clean (left-clean n g s (sent-as n s p (low n g) e)) r o
+          ∙ ap (λ (b : ℕ). 0 ∷ mOf n ∷ 0 ∷ 0 ∷ 1 ∷ b ∷ []) (sent-first n s p (low n g) e);
+      one-flip = λ i s p r a b ne e o.
+          let k = flip n i in
+          let h = flip-low n g i b in
+          taken st c epoch n a (g .idle) s (Repaired i) (left-repaired n g i b s ne (sent-as k s p h e)) r o
+          ∙ ap (λ (x : ℕ). 0 ∷ mOf n ∷ 1 ∷ i ∷ 1 ∷ x ∷ []) (sent-first k s p h e);
       left = same-left st c epoch n g;
       clean-told = λ s r t long a e o f. told st c epoch n a (g .idle) s Clean (left-clean n g s e) r t o long f;
       repaired-told = λ i s r t long a b ne e o f. told st c epoch n a (g .idle) s (Repaired i) (left-repaired n g i b s ne e) r t o long f;

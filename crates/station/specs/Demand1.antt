@@ -12,7 +12,9 @@ use Rattle.strings.specs.declared.Written.{Written}
 use Rattle.strings.specs.declared.Written.the-variants.{Refused as NotWritten}
 use Rattle.strings.specs.Numbers.{test, Exactly}
 use Rattle.strings.specs.Calls.{writtenPaper, checkedPaper, checkTests, Checks}
-use Rattle.relative.specs.Calls.{readingTests, ReadsRelative, writingTests, WritesRelative}
+use Rattle.relative.specs.declared.Decoded.{Decoded}
+use Rattle.relative.specs.declared.Decoded.the-variants.{Refused as NotRead}
+use Rattle.relative.specs.Calls.{decodedPaper, readingTests, ReadsRelative, writingTests, WritesRelative}
 use Rattle.records.specs.declared.kinds.Kind.{Kind}
 use Rattle.records.specs.declared.named.Record.{Record}
 use Rattle.words.specs.declared.reading.Reading.{Reading}
@@ -48,7 +50,7 @@ pub record StationAnswers (st : Station) : Type 0 where
 -- the calls on strings and records: the answer, and the bytes that are left in an output
 pub record StringsAnswer : Type 0 where
   pub check : (s out : List ℕ) → OneAnswer (Checked × List ℕ) (λ r. Checks s out (r .0) (r .1))
-  pub from-relative : (s out : List ℕ) → OneAnswer (Written × List ℕ) (λ r. ReadsRelative s out (r .0) (r .1))
+  pub from-relative : (s out : List ℕ) → OneAnswer (Decoded × List ℕ) (λ r. ReadsRelative s out (r .0) (r .1))
   pub to-relative : (s out : List ℕ) → OneAnswer (Written × List ℕ) (λ r. WritesRelative s out (r .0) (r .1))
   pub read : (s : List ℕ) (k : Kind) → OneAnswer Reading (Reads s k)
   pub write : (m : ℕ) (w : Record) (out : List ℕ) → OneAnswer (Written × List ℕ) (λ r. Writes m w out (r .0) (r .1))
@@ -64,7 +66,7 @@ pub record StationNumbers (st : Station) : Type 0 where
 
 pub record StringNumbers : Type 0 where
   pub check : (s out : List ℕ) (r : Checked) (out′ : List ℕ) → Checks s out r out′ → Exactly (checkTests s out) (checkedPaper r)
-  pub from-relative : (s out : List ℕ) (r : Written) (out′ : List ℕ) → ReadsRelative s out r out′ → Exactly (readingTests s out) (writtenPaper r)
+  pub from-relative : (s out : List ℕ) (r : Decoded) (out′ : List ℕ) → ReadsRelative s out r out′ → Exactly (readingTests s out) (decodedPaper r)
   pub to-relative : (s out : List ℕ) (r : Written) (out′ : List ℕ) → WritesRelative s out r out′ → Exactly (writingTests s out) (writtenPaper r)
   pub read : (s : List ℕ) (k : Kind) (r : Reading) → Reads s k r → Exactly (readTests s k) (readingPaper r)
   pub write : (m : ℕ) (w : Record) (out : List ℕ) (r : Written) (out′ : List ℕ) → Writes m w out r out′ → Exactly (writeTests m w out) (writtenPaper r)
@@ -89,6 +91,6 @@ pub record ChannelLeaves (st : Station) (c : ℕ) : Type 0 where
 -- ---- "and no output byte": whatever the number, the output is as it was handed over
 pub record NoOutputByte : Type 0 where
   pub check : (s out : List ℕ) (why : Refusal) (out′ : List ℕ) → Checks s out (Refused why) out′ → out′ ≡ out
-  pub from-relative : (s out : List ℕ) (why : Refusal) (out′ : List ℕ) → ReadsRelative s out (NotWritten why) out′ → out′ ≡ out
+  pub from-relative : (s out : List ℕ) (why : Refusal) (out′ : List ℕ) → ReadsRelative s out (NotRead why) out′ → out′ ≡ out
   pub to-relative : (s out : List ℕ) (why : Refusal) (out′ : List ℕ) → WritesRelative s out (NotWritten why) out′ → out′ ≡ out
   pub write : (m : ℕ) (w : Record) (out : List ℕ) (why : Refusal) (out′ : List ℕ) → Writes m w out (NotWritten why) out′ → out′ ≡ out

@@ -27,7 +27,7 @@ unfoldable pub answersSince : ℕ → List Said → List (List ℕ)
 answersSince c [] = []
 answersSince c (x ∷ before) = sinceReset c (x .call) (x .answer) (answersSince c before)
 
--- an answer is the number that says no; or 0, m, the verdict's case, 0 where it is clean, its bit and the news
+-- an answer is the number that says no; or 0, m, the verdict's case, 0 where it is clean, its bit, the news and the polarity
 abbrev pub saysNo : List ℕ → Bool
 saysNo answer = not (eqb (getD answer 0 0) 0)
 

@@ -1,6 +1,6 @@
 -- All that the client demands, whole and in the client's order: one record, proved as `demands` in `proofs/Demands.antt`. The words in quotes are the
--- client's, or the paper's where it says more; what each field says stands in `Demand1`, `Strings`, `Sent`, `Words`, `Demand2`, `Demand3`, `Relock` and
--- `Health`.
+-- client's, or the paper's where it says more; what each field says stands in `Demand1`, `Strings`, `Sent`, `EitherWay`, `Words`, `Demand2`, `Demand3`,
+-- `Relock` and `Health`.
 -- Assumes nothing.
 use Prim.Native.Nat.{ℕ, _^_, _≤_, _<_}
 use mathlib.Core.Bool.{true, false}
@@ -22,6 +22,7 @@ use Rattle.station.specs.Demand1.{OneAnswer, StationAnswers, StringsAnsw
 use Rattle.station.specs.Strings.{Checking, CheckedAgain, Encoding, Relative}
 use Rattle.station.specs.Words.{ByName, RoundTrips, Ranges}
 use Rattle.station.specs.Sent.{SentString, HeardAsSent}
+use Rattle.station.specs.EitherWay.{EitherWay, EveryHistoryAlike}
 use Rattle.station.specs.Demand2.{Tallied, Counted}
 use Rattle.station.specs.Demand3.{Answered, Exchanged, SameCalls, Reordered, SameShown, SameBooks, BookRule}
 use Rattle.station.specs.Relock.{EveryBeat, Relocked}
@@ -51,6 +52,9 @@ pub record AllDemands : Type 0 where
   pub relative : Relative
   -- and so at the station: "single flips repaired, pairs refused, clean strings taken"
   pub sent : (st : Station) (c epoch n : ℕ) → SentString n → HeardAsSent st c epoch n
+  -- "A string and its inverse now answer alike except in this field, and demand 2 is read so": of every station, and over any calls
+  pub either-way : (st : Station) (c epoch : ℕ) → EitherWay st c epoch
+  pub histories-alike : EveryHistoryAlike
   -- "read and written as GLONASS ICD 5.0 says, sign bits and layouts included."
   pub by-name : ByName
   pub ranges : Ranges

@@ -10,7 +10,9 @@ use Rattle.strings.specs.declared.Verdict.the-variants.{Clean, Repaired}
 use Rattle.strings.specs.declared.hamming.Damage.the-variants.{Unplaced, Even, Outside}
 use Rattle.strings.specs.declared.hamming.Ruling.the-variants.{Sound, Damaged}
 use Rattle.strings.specs.Number.{numberOf, paddingOf, misshapen, wordOf, flip, stringBytes}
+use Rattle.relative.specs.declared.Polarity.the-variants.{Upright, Inverted}
 use Rattle.relative.specs.Relative.{readRelative, writeRelative, inverse}
+use Rattle.relative.specs.Polarity.{polarityOf}
 use Rattle.strings.specs.Hamming.{position, sumC, sumAll, syndrome, sumsSet, highest, placed, judge, ruling, mended, encode}
 use Rattle.strings.specs.Numbers.{firstOf, answerOf}
 use Rattle.strings.specs.Calls.{soundTests}
@@ -36,6 +38,9 @@ pub record KnownStrings : Type 0 where
   pub B-inverted : stringBytes (inverse (numberOf B)) ≡ inverseB
   pub B-read : stringBytes (readRelative (numberOf B)) ≡ A
   pub B-inverse-read : stringBytes (readRelative (numberOf inverseB)) ≡ A
+  -- and, by their first symbols, the one upright and the other inverted
+  pub B-upright : polarityOf (numberOf B) ≡ Upright
+  pub B-inverse-inverted : polarityOf (numberOf inverseB) ≡ Inverted
   -- "A with bit 9 flipped: S = 3, repaired 9."
   pub flip-9-S : syndrome (flip a 9) ≡ 3
   pub flip-9 : ruling (flip a 9) ≡ Sound (Repaired 9)
@@ -72,11 +77,7 @@ pub record KnownStrings : Type 0 where
   pub last-day : dayOf 6 1461 ≡ 8766
   pub next-day : dayOf 7 1 ≡ 8767
 
--- the two rows that no lower table has
-B-inverted-so : stringBytes (inverse (numberOf B)) ≡ inverseB
-unfolding numberOf stringBytes inverse
-B-inverted-so = refl
-
+-- the row that no lower table has
 zeros-offered-so : (c epoch : ℕ) → isNoChannel c ≡ false → answerOf (stationTests freshStation c epoch zeros) (toldIn freshStation c epoch zeros) ≡ 5 ∷ []
 unfolding soundTests numberOf paddingOf misshapen wordOf readRelative position sumC sumAll syndrome sumsSet highest placed judge ruling mended
 zeros-offered-so c epoch served = rw served refl
@@ -88,9 +89,11 @@ known-strings =
       A-encoded = strings-known .A-encoded;
       A-clean = strings-known .A-clean;
       B-sent = relative-known .B-sent;
-      B-inverted = B-inverted-so;
+      B-inverted = relative-known .B-inverted;
       B-read = relative-known .B-read;
       B-inverse-read = relative-known .B-inverse-read;
+      B-upright = relative-known .B-upright;
+      B-inverse-inverted = relative-known .B-inverse-inverted;
       flip-9-S = strings-known .flip-9-S;
       flip-9 = strings-known .flip-9;
       flip-85-S = strings-known .flip-85-S;

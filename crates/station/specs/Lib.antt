@@ -6,6 +6,7 @@ pub mod Channels
 pub mod Sent
 pub mod History
 pub mod Said
+pub mod EitherWay
 pub mod Demand1
 pub mod Strings
 pub mod Words

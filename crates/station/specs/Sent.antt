@@ -37,6 +37,10 @@ mOf n = wordOf n 84 81
 abbrev pub SentAs : ℕ → List ℕ → Type 0
 SentAs n s = (s ≡ stringBytes (writeRelative n)) ⊎ (s ≡ stringBytes (inverse (writeRelative n)))
 
+-- the one with the polarity 0, and the other with 1
+abbrev pub SentWith : ℕ → List ℕ → ℕ → Type 0
+SentWith n s p = ((s ≡ stringBytes (writeRelative n)) × (p ≡ 0)) ⊎ ((s ≡ stringBytes (inverse (writeRelative n))) × (p ≡ 1))
+
 -- bits that may be wrong: bit 85 is left out, since it is read as 0 whatever was sent
 abbrev pub IsBit : ℕ → Type 0
 IsBit i = (1 ≤ i) × (i ≤ 84)
@@ -69,12 +73,12 @@ pub record SameButVerdict (before : Station) (c : ℕ) (clean repaired : Station
 
 -- ---- all of it, whole: proved as `heard-as-sent`
 pub record HeardAsSent (st : Station) (c epoch n : ℕ) : Type 0 where
-  -- taken, m, clean, and kept
-  pub clean : (s : List ℕ) (r : Stepped) → Awaits st c epoch n → SentAs n s → OffersTo st c epoch s r
-      → answerPaper (r .answer) ≡ 0 ∷ mOf n ∷ 0 ∷ 0 ∷ 1 ∷ []
-  -- "one flip is repaired unless it is bit 8": taken, the m that was sent, repaired with the bit named, and kept
-  pub one-flip : (i : ℕ) (s : List ℕ) (r : Stepped) → Awaits st c epoch n → IsBit i → (i ≡ 8 → ⊥) → SentAs (flip n i) s → OffersTo st c epoch s r
-      → answerPaper (r .answer) ≡ 0 ∷ mOf n ∷ 1 ∷ i ∷ 1 ∷ []
+  -- taken, m, clean, kept, and the polarity
+  pub clean : (s : List ℕ) (p : ℕ) (r : Stepped) → Awaits st c epoch n → SentWith n s p → OffersTo st c epoch s r
+      → answerPaper (r .answer) ≡ 0 ∷ mOf n ∷ 0 ∷ 0 ∷ 1 ∷ p ∷ []
+  -- "one flip is repaired unless it is bit 8": taken, the m that was sent, repaired with the bit named, kept, and the polarity
+  pub one-flip : (i : ℕ) (s : List ℕ) (p : ℕ) (r : Stepped) → Awaits st c epoch n → IsBit i → (i ≡ 8 → ⊥) → SentWith (flip n i) s p
+      → OffersTo st c epoch s r → answerPaper (r .answer) ≡ 0 ∷ mOf n ∷ 1 ∷ i ∷ 1 ∷ p ∷ []
   -- and of a station that has its rows it leaves what the string leaves that was sent
   pub left : (i : ℕ) (s t : List ℕ) (q r : Stepped) → length (st .rows) ≡ channels → Awaits st c epoch n → IsBit i → (i ≡ 8 → ⊥)
       → SentAs n s → OffersTo st c epoch s q → SentAs (flip n i) t → OffersTo st c epoch t r → SameButVerdict st c (q .station) (r .station)

@@ -16,8 +16,7 @@ use Rattle.channel.specs.declared.Row.{Row}
 use Rattle.tallies.specs.Tallies.{noneCounted}
 use Rattle.channel.specs.Frame.{Frame}
 use Rattle.channel.specs.Row.{frameOf, emptyRow}
-use Rattle.hearing.specs.Hears.{wholeOf, verdictIn}
-use Rattle.channel.specs.Offers.{answerPaper, toldOf, offerTests, offeredRow, storesIt}
+use Rattle.channel.specs.Offers.{answerPaper, offerTests, toldTo, offeredRow, storesIt}
 use Rattle.shows.specs.Shows.{showsOf, brought}
 use Rattle.station.specs.declared.Station.{Station}
 use Rattle.station.specs.declared.Stepped.{Stepped}
@@ -57,9 +56,9 @@ channelTests c = test 1 (isNoChannel c) ∷ []
 abbrev pub stationTests : Station → ℕ → ℕ → List ℕ → List Test
 stationTests st c epoch s = test 1 (isNoChannel c) ∷ offerTests (heldAt st c) epoch s
 
--- "A taken offer answers m, a verdict .. and news"
+-- "A taken offer answers m, a verdict .. and news", and the polarity
 abbrev pub toldIn : Station → ℕ → ℕ → List ℕ → List ℕ
-toldIn st c epoch s = toldOf (heldAt st c) epoch (wholeOf s) (verdictIn s)
+toldIn st c epoch s = toldTo (heldAt st c) epoch s
 
 -- "Each string newly stored brings all entries that its frame then shows to the book; one already held changes only tallies"
 abbrev pub bookAfter : Book → Row → ℕ → List ℕ → Book

@@ -3,7 +3,6 @@
 -- Assumes nothing.
 use Prim.Native.Nat.{ℕ, _/_, _^_, _≤_, _<_}
 use mathlib.Core.List.{List, [], _∷_}
-use mathlib.Core.Logic.{_⊎_}
 use mathlib.Core.Path.{_≡_}
 use lib.ListN.{length, getD}
 use Rattle.strings.specs.declared.Refusal.the-variants.{Idle}
@@ -16,8 +15,11 @@ use Rattle.strings.specs.declared.Written.the-variants.{Done}
 use Rattle.strings.specs.Number.{bitOf, flip, stringBytes}
 use Rattle.strings.specs.Hamming.{Encoded, encode}
 use Rattle.strings.specs.Calls.{checkedPaper, Checks}
+use Rattle.relative.specs.declared.Polarity.the-variants.{Upright}
+use Rattle.relative.specs.declared.Decoded.{Decoded}
+use Rattle.relative.specs.declared.Decoded.the-variants.{Read}
 use Rattle.relative.specs.Relative.{inverse}
-use Rattle.relative.specs.Calls.{ReadsRelative, WritesRelative}
+use Rattle.relative.specs.Calls.{ReadsRelative, WritesRelative, Meant, otherWay}
 
 -- ---- the check of a string n of which every sum is 0, "encoded", and of what comes of it on the way
 pub record Checking (n : ℕ) (out : List ℕ) : Type 0 where
@@ -51,14 +53,15 @@ pub record Encoding (n : ℕ) : Type 0 where
 
 -- ---- the relative code
 pub record Relative : Type 0 where
-  -- a string with bit 85 at 0, written and then read, is the same string
+  -- a string with bit 85 at 0, written and then read, is the same string, and came upright
   pub written-read : (n : ℕ) → n < 2 ^ 84 → (out back : List ℕ) → length out ≡ 11 → length back ≡ 11
-      → (r q : Written) (out′ back′ : List ℕ) → WritesRelative (stringBytes n) out r out′ → ReadsRelative out′ back q back′
-      → (r ≡ Done) × ((q ≡ Done) × (back′ ≡ stringBytes n))
-  -- symbols, read and then written, are the same symbols or the same inverted
+      → (r : Written) (q : Decoded) (out′ back′ : List ℕ) → WritesRelative (stringBytes n) out r out′ → ReadsRelative out′ back q back′
+      → (r ≡ Done) × ((q ≡ Read Upright) × (back′ ≡ stringBytes n))
+  -- what the polarity means: symbols, read and then written, are the same symbols exactly where they came upright, and the same inverted exactly where
+  -- they came inverted
   pub read-written : (x : ℕ) → x < 2 ^ 85 → (out back : List ℕ) → length out ≡ 11 → length back ≡ 11
-      → (r q : Written) (out′ back′ : List ℕ) → ReadsRelative (stringBytes x) out r out′ → WritesRelative out′ back q back′
-      → (r ≡ Done) × ((q ≡ Done) × ((back′ ≡ stringBytes x) ⊎ (back′ ≡ stringBytes (inverse x))))
-  -- "a string and the same with all 85 symbols inverted read alike"
-  pub inverse-alike : (x : ℕ) → x < 2 ^ 85 → (out : List ℕ) (r q : Written) (out′ out″ : List ℕ)
-      → ReadsRelative (stringBytes x) out r out′ → ReadsRelative (stringBytes (inverse x)) out q out″ → (r ≡ q) × (out′ ≡ out″)
+      → (r : Decoded) (q : Written) (out′ back′ : List ℕ) → ReadsRelative (stringBytes x) out r out′ → WritesRelative out′ back q back′
+      → Meant x r q back′
+  -- "a string and the same with all 85 symbols inverted read alike", but that they answer the one polarity and the other
+  pub inverse-alike : (x : ℕ) → x < 2 ^ 85 → (out : List ℕ) (r q : Decoded) (out′ out″ : List ℕ)
+      → ReadsRelative (stringBytes x) out r out′ → ReadsRelative (stringBytes (inverse x)) out q out″ → (q ≡ otherWay r) × (out″ ≡ out′)

@@ -35,7 +35,7 @@ returns-2 : tie.Need-returns-2
 returns-2 c =
     let k = c .before .before in
     let d = k .before .before .before .before .before .before in
-    hears-on _ _ _ _ refl (d .from-relative .ensures) _ (k .before .before .before .enum-told .given .1) _ _ (d .before .before .before .before .pre) (k .check .ensures)
+    hears-on _ _ _ _ refl (d .from-relative .ensures) _ _ (k .before .before .before .enum-told .given .1) _ _ (d .before .before .before .before .pre) (k .check .ensures)
 
 pub hear-spec : {M : Type 1} → statement M
 hear-spec =

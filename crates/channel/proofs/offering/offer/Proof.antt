@@ -8,9 +8,9 @@ use Rattle.tallies.specs.declared.Tallies.{Tallies}
 use Rattle.tallies.specs.Tallies.{afterOffer}
 use Rattle.channel.specs.declared.Row.{Row}
 use Rattle.immediate.specs.Kept.{recordBy}
-use Rattle.channel.specs.Row.{Held, heldIn, holding, counted}
+use Rattle.channel.specs.Row.{Held, heldIn, heldOf, holding, counted}
 use Rattle.channel.specs.Offers.{outcomeOf, tellsRecord}
-use Rattle.channel.proofs.Settling.{offers-by}
+use Rattle.channel.proofs.Settling.{placed-whole, offers-by}
 use borrow.Author.Needs.{needs}
 use Rattle.channel.proofs.offering.offer.Statement.{statement}
 use Rattle.channel.proofs.offering.offer.Tie as tie
@@ -52,16 +52,22 @@ is-built-requires c κs = search needs
 first-four-requires : tie.Need-first-four-requires
 first-four-requires c κs = search needs
 
+told-with-requires : tie.Need-told-with-requires
+told-with-requires c κs =
+    let d = apart c in
+    placed-whole (heldOf (given d)) (d .before .before .before .before .args .epoch) _ _ (after d) (d .offer-apart .ensures)
+
 count-requires : tie.Need-count-requires
 count-requires c κs = search needs
 
 returns : tie.Need-returns
 unfolding counted
 returns c =
-    let d = apart (c .before .before) in
-    let o = outcomeOf (d .offer-apart .result .answer) in
-    offers-by (given d) (d .before .before .before .before .args .epoch) _ (after d) _ (d .offer-apart .ensures)
-    (ap (tallied (c .before .before .if1 .row)) (c .count .ensures) ∙ ap (λ (x : Row). tallied x (afterOffer o (x .tallies))) (kept (c .before .before)))
+    let j = c .before .before .before in
+    let d = apart j in
+    let told = c .before .before .told-with in
+    offers-by (given d) (d .before .before .before .before .args .epoch) _ (after d) (d .offer-apart .result .answer) _ (d .offer-apart .ensures) (told .ensures)
+    (ap (tallied (j .if1 .row)) (c .count .ensures) ∙ ap (λ (x : Row). tallied x (afterOffer (outcomeOf (told .result)) (x .tallies))) (kept j))
 
 pub offer-spec : {M : Type 1} → statement M
 offer-spec =
@@ -71,5 +77,6 @@ offer-spec =
     offer-apart-requires
     is-built-requires
     first-four-requires
+    told-with-requires
     count-requires
     returns)

@@ -37,19 +37,33 @@ mul-result-3 c = search needs
 add-result-2 : tie.Need-add-result-2
 add-result-2 c = search needs
 
+polarity-number-requires : tie.Need-polarity-number-requires
+polarity-number-requires c κs = search needs
+
+cast-result-4 : tie.Need-cast-result-4
+cast-result-4 c = search needs
+
+mul-result-4 : tie.Need-mul-result-4
+mul-result-4 c = search needs
+
+add-result-3 : tie.Need-add-result-3
+add-result-3 c = search needs
+
 enum-known-a-2 : tie.Need-enum-known-a-2
 enum-known-a-2 c = search needs
 
 refusal-told-requires : tie.Need-refusal-told-requires
 refusal-told-requires c κs = search needs
 
-cast-result-4 : tie.Need-cast-result-4
-cast-result-4 c = search needs
+cast-result-5 : tie.Need-cast-result-5
+cast-result-5 c = search needs
 
 returns : tie.Need-returns
 returns c =
-    let a = c .before .before .before .a in
-    rw (a .given .1) (rw (c .before .verdict-told .ensures) (rw (c .news-told .ensures) (taken-packed (a .given .0 .0) (a .given .0 .1 .0) (a .given .0 .1 .1 .0))))
+    let a = c .before .before .before .before .a in
+    let g = a .given .0 in
+    rw (a .given .1) (rw (c .before .before .verdict-told .ensures) (rw (c .before .news-told .ensures) (rw (c .polarity-number .ensures)
+    (taken-packed (g .0) (g .1 .0) (g .1 .1 .0) (g .1 .1 .1 .0)))))
 
 returns-2 : tie.Need-returns-2
 returns-2 c = search needs
@@ -69,8 +83,12 @@ told-in-spec =
     cast-result-3
     mul-result-3
     add-result-2
+    polarity-number-requires
+    cast-result-4
+    mul-result-4
+    add-result-3
     enum-known-a-2
     refusal-told-requires
-    cast-result-4
+    cast-result-5
     returns
     returns-2)

@@ -48,7 +48,7 @@ returns-2 : tie.Need-returns-2
 unfolding seenIn
 returns-2 c =
     let h = heard-as _ _ _ (c .before .before .before .before .heard .given .1) (c .before .before .before .before .before .before .before .hear .ensures) in
-    rw (heard-clear _ _ _ _ h) (ap₂ seen (c .before .before .bit-in .ensures ∙ ap bitIn (heard-verdict _ _ _ _ h)) (c .number-in .ensures ∙ ap numberIn (heard-number _ _ _ _ h)))
+    rw (heard-clear _ _ _ _ h) (ap₂ (λ (bit m : ℕ). seen bit m 0) (c .before .before .bit-in .ensures ∙ ap bitIn (heard-verdict _ _ _ _ h)) (c .number-in .ensures ∙ ap numberIn (heard-number _ _ _ _ h)))
 
 pub see-spec : {M : Type 1} → statement M
 see-spec =

@@ -10,6 +10,9 @@ enum-known-a c = search needs
 bit-in-requires : tie.Need-bit-in-requires
 bit-in-requires c κs = search needs
 
+polarity-number-requires : tie.Need-polarity-number-requires
+polarity-number-requires c κs = search needs
+
 enum-known-a-2 : tie.Need-enum-known-a-2
 enum-known-a-2 c = search needs
 
@@ -18,7 +21,7 @@ seen-after-requires c κs = search needs
 
 returns : tie.Need-returns
 unfolding seenBy
-returns c = rw (c .before .before .a .given .1, c .bit-in .ensures)
+returns c = rw (c .before .before .before .a .given .1, c .before .bit-in .ensures, c .polarity-number .ensures)
 
 returns-2 : tie.Need-returns-2
 returns-2 c = rw (c .before .before .a2 .given .1) (c .seen-after .ensures)
@@ -26,4 +29,4 @@ returns-2 c = rw (c .before .before .a2 .given .1) (c .seen-after .ensures)
 pub seen-by-spec : {M : Type 1} → statement M
 seen-by-spec =
     tie.close
-    (tie.spec enum-known-a bit-in-requires enum-known-a-2 seen-after-requires returns returns-2)
+    (tie.spec enum-known-a bit-in-requires polarity-number-requires enum-known-a-2 seen-after-requires returns returns-2)

@@ -1,0 +1,146 @@
+-- A station cannot tell a string from its inverse but by the polarity that it answers: one offer (either-way), and calls one after the other
+-- (histories-alike).
+-- Assumes nothing.
+use mathlib.Core.Path.{_≡_, refl, sym, ap, ap₂, subst, _∙_}
+use mathlib.Core.Bool.{Bool, true, false, true≢false}
+use mathlib.Core.List.{List, [], _∷_}
+use mathlib.Core.Logic.{_⊎_, inl, inr, ⊎-elim}
+use Prim.Native.Nat.{ℕ}
+use borrow.Author.Tests.{le-ltb}
+use Rattle.strings.specs.Number.{numberOf, stringBytes}
+use Rattle.strings.specs.Numbers.{firstOf, placeOf, answerOf}
+use Rattle.strings.specs.Calls.{writtenPaper}
+use Rattle.words.specs.Calls.{numberIn}
+use Rattle.relative.specs.Relative.{inverse}
+use Rattle.relative.specs.Polarity.{polarityOf}
+use Rattle.hearing.specs.Hears.{wholeOf, verdictIn}
+use Rattle.channel.specs.Frame.{newsOf}
+use Rattle.channel.specs.Offers.{answerPaper}
+use Rattle.channel.proofs.EitherWay.{Turned, inverse-turned, other-way, polarity-in}
+use Rattle.station.specs.declared.Station.{Station}
+use Rattle.station.specs.declared.Stepped.{Stepped}
+use Rattle.station.specs.declared.Emptied.{Emptied}
+use Rattle.station.specs.Station.{lastChannel, heldAt, stationTests, stationAfter, OffersTo, Resets}
+use Rattle.station.specs.History.{Call, Offer, Reset, channelOf}
+use Rattle.station.specs.Said.{Said, said, none, offers, resets}
+use Rattle.station.specs.EitherWay.{AlikeStepped, EitherWay, InverseOffered, ButPolarity, AlikeRuns, EveryHistoryAlike}
+use Rattle.station.proofs.OnceOnly.{offers-to-once, resets-once}
+
+-- ---- an offer looks at its bytes by their shape, by the plain string that they are read as, and by their first symbol
+module _ (st : Station) (c epoch : ℕ) (s t : List ℕ) (e : Turned s t) where
+  station-turned : stationAfter st c epoch t ≡ stationAfter st c epoch s
+  unfolding stationAfter
+  station-turned = rw (e .shape, e .plain)
+
+  module _ (r q : Stepped) (o : OffersTo st c epoch s r) (p : OffersTo st c epoch t q) where
+    pub turned-way : AlikeStepped r q
+    turned-way =
+        let f = heldAt st c in
+        let ts = stationTests st c epoch s in
+        record {
+          answer = other-way (firstOf ts) (placeOf ts) (numberIn (wholeOf s)) (verdictIn s) (newsOf f epoch (wholeOf s)) (polarityOf (numberOf s))
+              (polarityOf (numberOf t)) (r .answer) (q .answer) (e .polarity) (o .answer ∙ ap (answerOf ts) (polarity-in f epoch s))
+              (rw (e .shape, e .plain) at (p .answer ∙ ap (answerOf (stationTests st c epoch t)) (polarity-in f epoch t)));
+          station = p .station ∙ station-turned ∙ sym (o .station);
+        }
+
+-- OFFERED UPRIGHT OR INVERTED, to any station
+pub either-way : (st : Station) (c epoch : ℕ) → EitherWay st c epoch
+either-way st c epoch =
+    record {
+      alike = λ x r q h o p. turned-way st c epoch (stringBytes x) (stringBytes (inverse x)) (inverse-turned x h) r q o p;
+      other-shape = λ s r l m o. o .answer ∙ rw (le-ltb lastChannel c l, m);
+    }
+
+-- ---- one call after the other
+-- a call by its parts; a reset has none but its channel
+abbrev epochOf : Call → ℕ
+epochOf (Offer c epoch s) = epoch
+epochOf (Reset c) = 0
+
+abbrev bytesOf : Call → List ℕ
+bytesOf (Offer c epoch s) = s
+bytesOf (Reset c) = []
+
+abbrev isOffer : Call → Bool
+isOffer (Offer c epoch s) = true
+isOffer (Reset c) = false
+
+-- two calls that are alike, each with its answer, are told alike and leave one station
+module _ (st : Station) where
+  record Both (x y : Said) (left left′ : Station) : Type 0 where
+    station : left′ ≡ left
+    answers : (y ≡ x) ⊎ (InverseOffered (x .call) (y .call) × ButPolarity (x .answer) (y .answer))
+
+  offered-again : (c epoch : ℕ) (s : List ℕ) (r : Stepped) (k e : ℕ) (t : List ℕ) (q : Stepped) → OffersTo st c epoch s r → OffersTo st k e t q
+      → Offer k e t ≡ Offer c epoch s
+      → Both (said (Offer c epoch s) (answerPaper (r .answer))) (said (Offer k e t) (answerPaper (q .answer))) (r .station) (q .station)
+  offered-again c epoch s r k e t q o p same =
+      let here : OffersTo st c epoch s q =
+      subst (λ (b : List ℕ). OffersTo st c epoch b q) (ap bytesOf same)
+      (subst (λ (n : ℕ). OffersTo st c n t q) (ap epochOf same) (subst (λ (n : ℕ). OffersTo st n e t q) (ap channelOf same) p))
+      in
+      let one = offers-to-once st c epoch s q r here o in
+      record {
+        station = ap (λ (x : Stepped). x .station) one;
+        answers = inl (ap₂ (λ (a : Call) (x : Stepped). said a (answerPaper (x .answer))) same one);
+      }
+
+  offered-inverted : (c epoch : ℕ) (s : List ℕ) (r : Stepped) (k e : ℕ) (t : List ℕ) (q : Stepped) → OffersTo st c epoch s r → OffersTo st k e t q
+      → InverseOffered (Offer c epoch s) (Offer k e t)
+      → Both (said (Offer c epoch s) (answerPaper (r .answer))) (said (Offer k e t) (answerPaper (q .answer))) (r .station) (q .station)
+  offered-inverted c epoch s r k e t q o p i =
+      let turned : Turned s t =
+      subst (λ (b : List ℕ). Turned s b) (sym (ap bytesOf (i .is)))
+      (subst (λ (b : List ℕ). Turned b (stringBytes (inverse (i .string)))) (sym (ap bytesOf (i .was))) (inverse-turned (i .string) (i .small)))
+      in
+      let here : OffersTo st c epoch t q =
+      subst (λ (n : ℕ). OffersTo st c n t q) (ap epochOf (i .is) ∙ sym (ap epochOf (i .was)))
+      (subst (λ (n : ℕ). OffersTo st n e t q) (ap channelOf (i .is) ∙ sym (ap channelOf (i .was))) p)
+      in
+      let w = turned-way st c epoch s t turned r q o here in
+      record { station = w .station; answers = inr (i, record { answer = r .answer; was = refl; is = ap answerPaper (w .answer) }) }
+
+  offered : (c epoch : ℕ) (s : List ℕ) (r : Stepped) (k e : ℕ) (t : List ℕ) (q : Stepped) → OffersTo st c epoch s r → OffersTo st k e t q
+      → (Offer k e t ≡ Offer c epoch s) ⊎ InverseOffered (Offer c epoch s) (Offer k e t)
+      → Both (said (Offer c epoch s) (answerPaper (r .answer))) (said (Offer k e t) (answerPaper (q .answer))) (r .station) (q .station)
+  offered c epoch s r k e t q o p = ⊎-elim (offered-again c epoch s r k e t q o p) (offered-inverted c epoch s r k e t q o p)
+
+  emptied : (c : ℕ) (r : Emptied) (k : ℕ) (q : Emptied) → Resets st c r → Resets st k q → (Reset k ≡ Reset c) ⊎ InverseOffered (Reset c) (Reset k)
+      → Both (said (Reset c) (writtenPaper (r .answer))) (said (Reset k) (writtenPaper (q .answer))) (r .station) (q .station)
+  emptied c r k q o p =
+      ⊎-elim
+      (λ same.
+      let one = resets-once st c q r (subst (λ (n : ℕ). Resets st n q) (ap channelOf same) p) o in
+      record {
+        station = ap (λ (x : Emptied). x .station) one;
+        answers = inl (ap₂ (λ (a : Call) (x : Emptied). said a (writtenPaper (x .answer))) same one);
+      })
+      (λ i. absurd (true≢false (sym (ap isOffer (i .was)))))
+
+-- the runs
+joined : {from : Station} {x y : Said} {all other : List Said} {st before left left′ : Station} → Both st x y left left′ → AlikeRuns from all other st before
+    → AlikeRuns from (x ∷ all) (y ∷ other) left left′
+joined b w = record { station = b .station; answers = (b .answers, w .answers) }
+
+not-both : (c epoch k : ℕ) (s : List ℕ) → (Reset k ≡ Offer c epoch s) ⊎ InverseOffered (Offer c epoch s) (Reset k) → ⊥
+not-both c epoch k s = ⊎-elim (λ e. true≢false (sym (ap isOffer e))) (λ i. true≢false (sym (ap isOffer (i .is))))
+
+not-both′ : (c epoch k : ℕ) (s : List ℕ) → (Offer c epoch s ≡ Reset k) ⊎ InverseOffered (Reset k) (Offer c epoch s) → ⊥
+not-both′ c epoch k s = ⊎-elim (λ e. true≢false (ap isOffer e)) (λ i. true≢false (sym (ap isOffer (i .was))))
+
+-- TWO HISTORIES THAT ARE ALIKE BUT FOR INVERTED STRINGS
+pub histories-alike : EveryHistoryAlike
+histories-alike from all other st st′ none none e = record { station = refl; answers = tt }
+histories-alike from all other st st′ none (offers k f t before′ old′ q run′ p) e = absurd e
+histories-alike from all other st st′ none (resets k before′ old′ q run′ p) e = absurd e
+histories-alike from all other st st′ (offers c epoch s before old r run o) none e = absurd e
+histories-alike from all other st st′ (resets c before old r run o) none e = absurd e
+histories-alike from all other st st′ (offers c epoch s before old r run o) (offers k f t before′ old′ q run′ p) e =
+    let w = histories-alike from before before′ old old′ run run′ (e .1) in
+    joined (offered old c epoch s r k f t q o (subst (λ (x : Station). OffersTo x k f t q) (w .station) p) (e .0)) w
+histories-alike from all other st st′ (resets c before old r run o) (resets k before′ old′ q run′ p) e =
+    let w = histories-alike from before before′ old old′ run run′ (e .1) in
+    joined (emptied old c r k q o (subst (λ (x : Station). Resets x k q) (w .station) p) (e .0)) w
+histories-alike from all other st st′ (offers c epoch s before old r run o) (resets k before′ old′ q run′ p) e = absurd (not-both c epoch k s (e .0))
+histories-alike from all other st st′ (resets k before old r run o) (offers c epoch s before′ old′ q run′ p) e = absurd (not-both′ c epoch k s (e .0))
