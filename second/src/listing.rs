@@ -58,7 +58,8 @@ fn line(station: &mut Station, bytes: &[u8]) -> String {
 }
 
 /// "Channel, epoch, number (0 if taken), repaired bit (0 if none or number 1..4),
-/// m (0 for 1..5)"; 31 to 33 have the zeros of 3.
+/// m (0 for 1..5)"; 31 to 33 have the zeros of 3. Then the polarity, "0 or 1, and 0
+/// for refused records".
 fn line_of_record(station: &mut Station, record: Record) -> String {
     let Record {
         channel,
@@ -66,6 +67,7 @@ fn line_of_record(station: &mut Station, record: Record) -> String {
         symbols,
     } = record;
     let answer = station.offer(usize::from(channel), epoch, &symbols);
+    let polarity = answer.map_or(0, |taken| taken.polarity.number());
     let (number, bit, m) = match answer {
         Ok(Taken { m, verdict, .. }) => (0, verdict.repaired_bit(), m),
         Err(refusal) => {
@@ -73,7 +75,7 @@ fn line_of_record(station: &mut Station, record: Record) -> String {
             (refusal.number(), bit, m)
         }
     };
-    format!("{channel} {epoch} {number} {bit} {m}")
+    format!("{channel} {epoch} {number} {bit} {m} {polarity}")
 }
 
 /// The repaired bit and m of a refused string, as far as the refusal came after
@@ -83,7 +85,7 @@ fn seen_in_refused(refusal: Refusal, symbols: &[u8]) -> (usize, usize) {
         return (0, 0);
     }
     match receive(symbols) {
-        Ok((verdict, string)) => (verdict.repaired_bit(), string.m()),
+        Ok(received) => (received.verdict.repaired_bit(), received.string.m()),
         Err(_) => (0, 0),
     }
 }

@@ -34,6 +34,7 @@ pub fn trial_input(seed: u64) -> Vec<u8> {
             Input::add_unknown_ops,
             station::entry_words::add_all,
             damage::add_all,
+            station::polarity::add_all,
         ],
     )
 }

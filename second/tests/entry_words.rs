@@ -328,7 +328,7 @@ fn the_made_input_has_minus_zero_in_every_signed_word() {
         .skip_while(|request| request.op != ENTRY_WORDS)
         .filter(|request| request.op == OFFER)
         .filter_map(|request| NavString::from_bytes(&request.payload[5..]).ok())
-        .map(|symbols| from_relative(&symbols))
+        .map(|symbols| from_relative(&symbols).0)
         .filter(|string| (6..=13).contains(&string.m()))
         .collect();
     for index in SIGNED {

@@ -3,7 +3,7 @@
 use second::hamming::{check, encode, Sums, Verdict};
 use second::known::{a, A, B, B_DAMAGED, B_INVERTED, FLIPS_TAKEN_FOR_BIT_85, FLIPS_THAT_DAMAGE};
 use second::refusal::Refusal;
-use second::relative::{from_relative, to_relative};
+use second::relative::{from_relative, to_relative, Polarity};
 use second::string::{NavString, BITS};
 
 fn string(bytes: &[u8]) -> NavString {
@@ -53,9 +53,10 @@ fn b_is_a_in_relative_form() {
 }
 
 #[test]
-fn b_reads_as_a_in_both_polarities() {
-    assert_eq!(from_relative(&string(&B)), a());
-    assert_eq!(from_relative(&string(&B_INVERTED)), a());
+fn b_reads_as_a_upright_and_its_inverse_as_a_inverted() {
+    assert_eq!(from_relative(&string(&B)), (a(), Polarity::Upright));
+    let inverted = from_relative(&string(&B_INVERTED));
+    assert_eq!(inverted, (a(), Polarity::Inverted));
 }
 
 #[test]

@@ -40,7 +40,7 @@ fn plain(op: u8, bytes: &[u8; BYTES]) -> NavString {
     bytes[BYTES - 1] &= !PADDING;
     let string = NavString::from_bytes(&bytes).unwrap();
     match op {
-        OFFER => from_relative(&string),
+        OFFER => from_relative(&string).0,
         _ => string,
     }
 }

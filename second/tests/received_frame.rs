@@ -2,7 +2,7 @@
 
 use second::hamming::{check, encode, Verdict};
 use second::known::received_frame;
-use second::relative::{from_relative, to_relative};
+use second::relative::{from_relative, to_relative, Polarity};
 use second::words::kinds::kind_of;
 use second::words::{read, read_words, word::time_of_day, write};
 
@@ -28,8 +28,9 @@ fn every_string_is_clean_and_encoded() {
 fn every_string_survives_relative_code_in_both_polarities() {
     for string in received_frame() {
         let symbols = to_relative(&string).unwrap();
-        assert_eq!(from_relative(&symbols), string);
-        assert_eq!(from_relative(&symbols.inverted()), string);
+        assert_eq!(from_relative(&symbols), (string, Polarity::Upright));
+        let inverted = from_relative(&symbols.inverted());
+        assert_eq!(inverted, (string, Polarity::Inverted));
     }
 }
 

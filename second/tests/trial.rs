@@ -30,10 +30,10 @@ fn write(room: u8, kind: u8, m: u8, values: &[i64]) -> String {
 
 #[test]
 fn known_strings_answer_in_hex() {
-    assert_eq!(answer(FROM_RELATIVE, 11, &B), format!("ok {A_HEX}\n"));
+    assert_eq!(answer(FROM_RELATIVE, 11, &B), format!("ok {A_HEX} 0\n"));
     assert_eq!(
         answer(FROM_RELATIVE, 11, &B_INVERTED),
-        format!("ok {A_HEX}\n")
+        format!("ok {A_HEX} 1\n")
     );
     assert_eq!(answer(TO_RELATIVE, 11, &A), format!("ok {B_HEX}\n"));
     assert_eq!(answer(CHECK, 11, &A), format!("ok 0 {A_HEX}\n"));
@@ -160,25 +160,29 @@ fn answers(requests: &[(u8, Vec<u8>)]) -> Vec<String> {
     lines.lines().map(String::from).collect()
 }
 
+fn offer_symbols(channel: u8, epoch: u8, symbols: &[u8]) -> (u8, Vec<u8>) {
+    (OFFER, [&[channel, 0, 0, 0, epoch], symbols].concat())
+}
+
 fn offer_b(channel: u8, epoch: u8) -> (u8, Vec<u8>) {
-    (OFFER, [&[channel, 0, 0, 0, epoch], &B[..]].concat())
+    offer_symbols(channel, epoch, &B)
 }
 
 /// The received frame on channel 3, from epoch 100 on.
 fn offers_of_received_frame() -> Vec<(u8, Vec<u8>)> {
     let offer = |(string, epoch)| {
         let symbols = to_relative(&string).unwrap().to_bytes();
-        (OFFER, [&[3, 0, 0, 0, epoch], &symbols[..]].concat())
+        offer_symbols(3, epoch, &symbols)
     };
     received_frame().into_iter().zip(100..).map(offer).collect()
 }
 
 #[test]
-fn an_offer_prints_m_repaired_bit_and_news() {
+fn an_offer_prints_m_repaired_bit_news_and_polarity() {
     let lines = answers(&offers_of_received_frame());
     let expected = (1..=15).map(|m| match m {
-        4 => String::from("taken 4 0 2"),
-        _ => format!("taken {m} 0 1"),
+        4 => String::from("taken 4 0 2 0"),
+        _ => format!("taken {m} 0 1 0"),
     });
     assert_eq!(lines, expected.collect::<Vec<_>>());
     let wrong = [
@@ -189,8 +193,30 @@ fn an_offer_prints_m_repaired_bit_and_news() {
     ];
     assert_eq!(
         answers(&wrong),
-        ["taken 1 0 1", "taken 1 0 0", "no 7", "no 1"]
+        ["taken 1 0 1 0", "taken 1 0 0 0", "no 7", "no 1"]
     );
+}
+
+/// The last two are stale.
+#[test]
+fn one_string_in_both_polarities_is_held_already() {
+    let offers = [
+        offer_b(0, 100),
+        offer_symbols(0, 100, &B_INVERTED),
+        offer_symbols(1, 100, &B_INVERTED),
+        offer_b(1, 100),
+        offer_symbols(0, 99, &B_INVERTED),
+        offer_b(1, 99),
+    ];
+    let lines = [
+        "taken 1 0 1 0",
+        "taken 1 0 0 1",
+        "taken 1 0 1 1",
+        "taken 1 0 0 0",
+        "no 7",
+        "no 7",
+    ];
+    assert_eq!(answers(&offers), lines);
 }
 
 #[test]
@@ -222,7 +248,7 @@ fn a_reset_and_a_fresh_station_print_ok() {
     ];
     let counted = "ok 1 1 0 0";
     let empty = "ok 0 0 0 0";
-    let taken = "taken 1 0 1";
+    let taken = "taken 1 0 1 0";
     assert_eq!(
         answers(&requests),
         [taken, counted, "ok", empty, taken, "ok", empty, "no 1"]

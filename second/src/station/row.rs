@@ -1,11 +1,12 @@
 //! One channel: its held frame, its immediate record, its tallies.
 
 use super::frame::{start_of, Frame, Place};
-use super::reception::receive;
+use super::reception::{receive, Received};
 use super::record::{read_record, strings_of_record, ImmediateRecord, STRINGS_OF_A_RECORD};
 use super::tallies::{count_one, Tallies};
 use crate::hamming::Verdict;
 use crate::refusal::Refusal;
+use crate::relative::Polarity;
 use crate::string::NavString;
 
 /// A channel after its reset holds nothing.
@@ -22,6 +23,7 @@ pub struct Taken {
     pub m: usize,
     pub verdict: Verdict,
     pub news: News,
+    pub polarity: Polarity,
 }
 
 #[derive(Clone, Copy, Debug, PartialEq, Eq)]
@@ -45,9 +47,14 @@ impl Row {
         answer
     }
 
-    /// Order of refusals: 2 to 9, and 31 to 33 in the position of 3.
+    /// Order of refusals: 2 to 9, and 31 to 33 in the position of 3. Nothing that is
+    /// kept depends on the polarity.
     fn take(&mut self, epoch: u32, symbols: &[u8]) -> Result<Taken, Refusal> {
-        let (verdict, string) = receive(symbols)?;
+        let Received {
+            string,
+            verdict,
+            polarity,
+        } = receive(symbols)?;
         let m = string.require_m()?;
         let start = start_of(epoch, m)?;
         let news = match self.place_of(start, &string)? {
@@ -58,7 +65,12 @@ impl Row {
                 self.store(start, string)
             }
         };
-        Ok(Taken { m, verdict, news })
+        Ok(Taken {
+            m,
+            verdict,
+            news,
+            polarity,
+        })
     }
 
     /// "A first string starts one", a frame.

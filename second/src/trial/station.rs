@@ -12,7 +12,8 @@ pub fn offer(station: &mut Station, payload: &[u8]) -> Option<Answer> {
     let answer = station.offer(usize::from(channel), epoch, symbols);
     Some(answer.map(|taken| {
         let bit = taken.verdict.repaired_bit();
-        format!("taken {} {bit} {}", taken.m, news_number(taken.news))
+        let (news, polarity) = (news_number(taken.news), taken.polarity.number());
+        format!("taken {} {bit} {news} {polarity}", taken.m)
     }))
 }
 

@@ -12,8 +12,8 @@ use crate::string::NavString;
 /// Order of refusals: 12, 2.
 pub fn from_relative(payload: &[u8]) -> Option<Answer> {
     with_room(payload, |symbols| {
-        let string = relative::from_relative(&symbols);
-        Ok(format!("ok {}", hex(&string)))
+        let (string, polarity) = relative::from_relative(&symbols);
+        Ok(format!("ok {} {}", hex(&string), polarity.number()))
     })
 }
 

@@ -24,6 +24,14 @@ fn record(channel: u8, epoch: u32, string: &NavString) -> Vec<u8> {
     .to_bytes()
 }
 
+/// The same record with all 85 symbols inverted.
+fn inverted(record: &[u8]) -> Vec<u8> {
+    let mut inverted = record.to_vec();
+    inverted[5..15].iter_mut().for_each(|byte| *byte ^= 0xFF);
+    inverted[15] ^= 0xF8;
+    inverted
+}
+
 #[test]
 fn the_papers_example() {
     let mut input = vec![0, 0, 0, 0, 0x64];
@@ -31,7 +39,7 @@ fn the_papers_example() {
     input.extend([0x18, 0, 0, 0, 7]);
     input.extend(B);
     input.extend([1, 2, 3]);
-    assert_eq!(lines(&input), "0 100 0 0 1\n24 7 1 0 0\nshort 3\n");
+    assert_eq!(lines(&input), "0 100 0 0 1 1\n24 7 1 0 0 0\nshort 3\n");
 }
 
 #[test]
@@ -42,15 +50,14 @@ fn no_input_prints_nothing() {
     }
 }
 
-/// Every string but the damaged ones has bit 20 flipped; the first is taken and the
-/// others are refused with 1 to 9, in the position of 3 with 31 to 33.
-#[test]
-fn the_repaired_bit_shows_from_5_on_and_m_from_6_on() {
+/// Every string but the damaged ones has bit 20 flipped; the first and the last are
+/// taken and the others are refused with 1 to 9, in the position of 3 with 31 to 33.
+fn records_of_every_number() -> Vec<Vec<u8>> {
     let string = string_1(1);
     let flipped = |string: &NavString| string.flipped(&[20]);
     let mut shape = record(0, 100, &flipped(&string));
     shape[15] |= 1;
-    let input = [
+    vec![
         record(0, 100, &flipped(&string)),
         record(99, 100, &flipped(&string)),
         shape,
@@ -64,22 +71,46 @@ fn the_repaired_bit_shows_from_5_on_and_m_from_6_on() {
         record(0, 101, &flipped(&string)),
         record(0, 100, &flipped(&string_1(2))),
         record(0, 100, &flipped(&string)),
-    ];
-    let expected = "0 100 0 20 1
-99 100 1 0 0
-0 100 2 0 0
-0 100 31 0 0
-0 100 32 0 0
-0 100 33 0 0
-0 100 4 0 0
-0 100 5 20 0
-0 1 6 20 3
-0 99 7 20 1
-0 101 8 20 1
-0 100 9 20 1
-0 100 0 20 1
+    ]
+}
+
+#[test]
+fn the_repaired_bit_shows_from_5_on_and_m_from_6_on() {
+    let expected = "0 100 0 20 1 0
+99 100 1 0 0 0
+0 100 2 0 0 0
+0 100 31 0 0 0
+0 100 32 0 0 0
+0 100 33 0 0 0
+0 100 4 0 0 0
+0 100 5 20 0 0
+0 1 6 20 3 0
+0 99 7 20 1 0
+0 101 8 20 1 0
+0 100 9 20 1 0
+0 100 0 20 1 0
 ";
-    assert_eq!(lines(&input.concat()), expected);
+    assert_eq!(lines(&records_of_every_number().concat()), expected);
+}
+
+/// All records inverted: the two that are taken say so, the refused ones do not.
+#[test]
+fn refused_records_have_no_polarity() {
+    let records = records_of_every_number();
+    let upright = lines(&records.concat());
+    let inverted: Vec<Vec<u8>> = records.iter().map(|record| inverted(record)).collect();
+    let expected = upright.replace("0 100 0 20 1 0", "0 100 0 20 1 1");
+    assert_eq!(expected.matches("1 1\n").count(), 2);
+    assert_eq!(lines(&inverted.concat()), expected);
+}
+
+#[test]
+fn an_inverted_string_that_is_stale_prints_0() {
+    let input = [
+        inverted(&record(5, 100, &string_1(1))),
+        inverted(&record(5, 99, &string_1(1))),
+    ];
+    assert_eq!(lines(&input.concat()), "5 100 0 0 1 1\n5 99 7 0 1 0\n");
 }
 
 #[test]
@@ -92,14 +123,14 @@ fn damaged_strings_print_31_to_33_and_zeros() {
         }
         .to_bytes()
     });
-    let expected = "3 7 31 0 0\n3 7 32 0 0\n3 7 33 0 0\n";
+    let expected = "3 7 31 0 0 0\n3 7 32 0 0 0\n3 7 33 0 0 0\n";
     assert_eq!(lines(&records.concat()), expected);
 }
 
 #[test]
 fn epochs_print_as_32_bit_numbers() {
     let input = record(7, u32::MAX, &string_1(1));
-    assert_eq!(lines(&input), "7 4294967295 0 0 1\n");
+    assert_eq!(lines(&input), "7 4294967295 0 0 1 0\n");
 }
 
 fn made(seed: u64, count: u64) -> Vec<u8> {

@@ -5,6 +5,7 @@ mod exchange;
 mod frames;
 mod health;
 mod listing;
+mod polarity;
 mod record;
 mod refusals;
 mod relock;
