@@ -17,13 +17,13 @@ BEGIN {
 
 function meaning() {
     if ($3) return "refused: " name[$3]
-    if ($4) return "taken, bit " $4 " repaired"
-    return "taken"
+    return "taken" ($4 ? ", bit " $4 " repaired" : "") ($6 ? ", inverted" : "")
 }
 
-NR == 1 { print "channel  epoch  number  bit   m" }
+NR == 1 { print "channel  epoch  number  bit   m  polarity" }
 $1 == "short" { print; next }
-NR <= shown { printf "%7d %6d %7d %4d %3d   %s\n", $1, $2, $3, $4, $5, meaning() }
+NR <= shown { printf "%7d %6d %7d %4d %3d %9d   %s\n", $1, $2, $3, $4, $5, $6, meaning() }
+!$3 { taken[$1]++; inverted[$1] += $6 }
 $3 { refused[$3]++ }
 !$3 && $4 { repaired++ }
 !$3 && !$4 { clean++ }
@@ -36,4 +36,7 @@ END {
     split("1 2 31 32 33 4 5 6 7 8 9", order)
     for (k = 1; k in order; k++)
         if ((n = order[k]) in refused) printf "%7d refused, %d %s: %s\n", refused[n], n, name[n], why[n]
+    printf "\n"
+    for (c = 0; c <= 23; c++)
+        if (inverted[c]) printf "channel %d hears inverted symbols: %d of the %d strings that it took\n", c, inverted[c], taken[c]
 }
