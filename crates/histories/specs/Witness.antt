@@ -25,7 +25,7 @@ use Rattle.channel.specs.Row.{isPresent, holdsFrame, emptyRow, newFrame, stored
 use Rattle.channel.specs.Offers.{takenRow}
 use Rattle.shows.specs.Shows.{frameBy, brought}
 use Rattle.channel.specs.History.{Reset as ResetIt, heldAfter}
-use Rattle.channel.specs.Witness.{whole, inBytes, sent, sentDamaged, one, two, three, four, five, six1, seven, fourteen, fifteen, ten}
+use Rattle.channel.specs.Witness.{whole, inBytes, sent, sentDamaged, one, two, three, four, four′, five, six1, seven, fourteen, fifteen, ten}
 use Rattle.station.specs.declared.Station.{Station}
 use Rattle.station.specs.declared.Health.{Health}
 use Rattle.station.specs.declared.Health.the-variants.{Unknown, Usable, NotUsable}
@@ -33,8 +33,8 @@ use Rattle.station.specs.Station.{freshStation, noRow, rowAt, stationTests, tol
 use Rattle.station.specs.Queries.{keptAt, recordTests, entryTests, threeNumbers, judged, healthBy}
 use Rattle.station.specs.History.{Call, Offer, Reset, callsOn, saidAfter, whole as all, earlier, ShownIn, stationOf}
 
--- ---- strings in bytes, as they are sent, besides those of a channel's table: there `five` is of day 8766, `six1` has nA 1 and C 0, and `four` has n 2.
--- The table's first fields say which each is
+-- ---- strings in bytes, as they are sent, besides those of a channel's table: there `five` is of day 8766, `six1` has nA 1 and C 0, `three` has l 0, and
+-- `four` has n 2 and M 01, `four′` n 2 and M 10. The table's first fields say which each is
 -- string 6 with nA 2 and C 0; with nA 1 and greater bits than `six1`; with nA 2 and C 1
 unfoldable pub six2 : List ℕ
 six2 = 0x20 ∷ 0x1F ∷ 0xFF ∷ 0xFF ∷ 0xFF ∷ 0xFF ∷ 0xFF ∷ 0xFF ∷ 0xFF ∷ 0xFC ∷ 0x60 ∷ []
@@ -52,6 +52,16 @@ fiveNext = 0x30 ∷ 0x01 ∷ 0xFF ∷ 0xFF ∷ 0xFF ∷ 0xFF ∷ 0xE8 ∷ 0 ∷ 
 -- string 2 with the top bit of B at 1, and tb 1
 unfoldable pub twoIll : List ℕ
 twoIll = 0x18 ∷ 0x01 ∷ 0xFF ∷ 0xFF ∷ 0xFF ∷ 0xFF ∷ 0xFF ∷ 0xFF ∷ 0xFF ∷ 0xFC ∷ 0x90 ∷ []
+
+-- string 3 with l 1; string 4 with n 2 and M 00; with n 2 and M 11
+unfoldable pub threeRaised : List ℕ
+threeRaised = 0x10 ∷ 0 ∷ 0x0F ∷ 0xFF ∷ 0xFF ∷ 0xFF ∷ 0xFF ∷ 0xFF ∷ 0xFF ∷ 0xFE ∷ 0xA0 ∷ []
+
+unfoldable pub four00 : List ℕ
+four00 = 0x3F ∷ 0xFF ∷ 0xFF ∷ 0xFF ∷ 0xFF ∷ 0xFF ∷ 0xFF ∷ 0xFF ∷ 0xFF ∷ 0x83 ∷ 0x30 ∷ []
+
+unfoldable pub four11 : List ℕ
+four11 = 0x3F ∷ 0xFF ∷ 0xFF ∷ 0xFF ∷ 0xFF ∷ 0xFF ∷ 0xFF ∷ 0xFF ∷ 0xFF ∷ 0x93 ∷ 0x10 ∷ []
 
 -- string 8 with two bits wrong
 unfoldable pub damaged : List ℕ
@@ -126,9 +136,12 @@ nextDay =
 unfoldable pub sixLast : Station
 sixLast = stationOf (Offer 3 105 six1 ∷ Offer 3 114 fifteen ∷ Offer 3 113 fourteen ∷ Offer 3 106 seven ∷ Offer 3 104 five ∷ [])
 
--- strings 1..4 on channel 3, string 2 being as given; then an entry on channel 7, string 6 being as given
+-- strings 1..4 on channel 3, strings 2, 3 and 4 being as given, or string 2 alone; then an entry on channel 7, string 6 being as given
+abbrev pub recordOf : List ℕ → List ℕ → List ℕ → List Call
+recordOf second third fourth = Offer 3 103 fourth ∷ Offer 3 102 third ∷ Offer 3 101 second ∷ Offer 3 100 one ∷ []
+
 abbrev pub recordCalls : List ℕ → List Call
-recordCalls second = Offer 3 103 four ∷ Offer 3 102 three ∷ Offer 3 101 second ∷ Offer 3 100 one ∷ []
+recordCalls second = recordOf second three four
 
 abbrev pub thenEntry : List ℕ → List Call → List Call
 thenEntry sixth cs = Offer 7 106 seven ∷ Offer 7 105 sixth ∷ Offer 7 104 five ∷ cs
@@ -144,6 +157,35 @@ illEntry = stationOf (thenEntry six2 (recordCalls two))
 
 unfoldable pub illRecord : Station
 illRecord = stationOf (thenEntry sixGood (recordCalls twoIll))
+
+-- l 1 and each M, the entry being good; and B ill too
+abbrev pub raisedWith : List ℕ → List ℕ → Station
+raisedWith second fourth = stationOf (thenEntry sixGood (recordOf second threeRaised fourth))
+
+unfoldable pub raised01 : Station
+raised01 = raisedWith two four
+
+unfoldable pub raised10 : Station
+raised10 = raisedWith two four′
+
+unfoldable pub raised11 : Station
+raised11 = raisedWith two four11
+
+unfoldable pub raised00 : Station
+raised00 = raisedWith two four00
+
+unfoldable pub illRaised00 : Station
+illRaised00 = raisedWith twoIll four00
+
+-- l 0 first, and in the next frame 1; then its string 4
+abbrev pub laterCalls : List Call
+laterCalls = Offer 3 117 threeRaised ∷ Offer 3 116 two ∷ Offer 3 115 one ∷ thenEntry sixGood (recordCalls two)
+
+unfoldable pub laterRaised : Station
+laterRaised = stationOf laterCalls
+
+unfoldable pub laterRecord : Station
+laterRecord = stationOf (Offer 3 118 four ∷ laterCalls)
 
 -- ---- what is told of them
 -- the entry of slot 1 that strings 5, `six1` and 7 show
@@ -173,6 +215,9 @@ pub record Witness : Type 0 where
   pub sixGood-sent : sixGood ≡ sent 6 (2 ^ 71 + 2 * 2 ^ 64)
   pub fiveNext-sent : fiveNext ≡ sent 5 (2 ^ 61 + 7 * 2 ^ 23)
   pub twoIll-sent : twoIll ≡ sent 2 (2 ^ 71 + 2 ^ 61)
+  pub threeRaised-sent : threeRaised ≡ sent 3 (2 ^ 56)
+  pub four00-sent : four00 ≡ sent 4 (2 * 2 ^ 2)
+  pub four11-sent : four11 ≡ sent 4 (2 * 2 ^ 2 + 3)
   pub damaged-sent : damaged ≡ sentDamaged 8 0 9 10
   -- ---- the book
   -- strings 5, 6 and 7 of one frame show an entry: its day, and the bits of its two halves
@@ -220,10 +265,20 @@ pub record Witness : Type 0 where
   pub reset-leaves : stationOf (Reset 3 ∷ entryCalls) ≡ record { rows = freshStation .rows; book = entry .book }
   pub reset-record : stationOf (Reset 3 ∷ recordCalls two) ≡ freshStation
   -- ---- health
-  -- "usable if the record has the top bit of B at 0 and the entry has C = 1, and not usable if either fails"
+  -- with M 01 and l 0: "usable if the record has the top bit of B at 0 and the entry has C = 1, and not usable if either fails"
   pub usable : healthOf goodEntry 3 ≡ Usable
   pub not-by-C : healthOf illEntry 3 ≡ NotUsable
   pub not-by-B : healthOf illRecord 3 ≡ NotUsable
+  -- "usable only if the top bit of B is 0, l of string 3 is 0 and the book has C = 1"; "Other codes of M are read as 01."
+  pub raised-01 : healthOf raised01 3 ≡ NotUsable
+  pub raised-10 : healthOf raised10 3 ≡ NotUsable
+  pub raised-11 : healthOf raised11 3 ≡ NotUsable
+  -- "With M = 00, bit 65 of string 3 is a reserved bit and plays no part in health"
+  pub raised-00 : healthOf raised00 3 ≡ Usable
+  pub ill-raised-00 : healthOf illRaised00 3 ≡ NotUsable
+  -- the next frame has l 1, but its string 4 has not come, and the record is the former one; then it comes
+  pub later-raised : healthOf laterRaised 3 ≡ Usable
+  pub later-record : healthOf laterRecord 3 ≡ NotUsable
   -- "Without a record, or without a book entry for its n, a channel's satellite is unknown"
   pub no-record : healthOf goodEntry 7 ≡ Unknown
   pub no-entry : healthOf recordAlone 3 ≡ Unknown
@@ -235,7 +290,7 @@ pub record Witness : Type 0 where
   pub record-channel : answerOf (recordTests goodEntry 24) [] ≡ 1 ∷ []
 
 pub witness : Witness
-unfolding whole inBytes sent sentDamaged one two three four five six1 seven fourteen fifteen six2 sixAbove sixGood fiveNext twoIll damaged soundTests numberOf paddingOf misshapen wordOf flip stringBytes readRelative writeRelative firstSymbol position sumC sumAll syndrome sumsSet highest placed judge ruling mended sumsMade encode layout valuesOf firstBad entryOf greater isGood dayOf isShown threeOf shownBy emptyBook joined joinedShown oneMore isPresent holdsFrame hasRecord emptyRow newFrame stored heldWith counted takenRow frameBy brought heldAfter freshStation noRow stationAfter stationReset judged healthBy callsOn saidAfter stationOf half entry twoFrames twoChannels greaterLast greaterFirst tiedRows tiedBook nextDay sixLast recordAlone goodEntry illEntry illRecord
+unfolding whole inBytes sent sentDamaged one two three four four′ five six1 seven fourteen fifteen six2 sixAbove sixGood fiveNext twoIll threeRaised four00 four11 damaged soundTests numberOf paddingOf misshapen wordOf flip stringBytes readRelative writeRelative firstSymbol position sumC sumAll syndrome sumsSet highest placed judge ruling mended sumsMade encode layout valuesOf firstBad entryOf greater isGood dayOf isShown threeOf shownBy emptyBook joined joinedShown oneMore isPresent holdsFrame hasRecord emptyRow newFrame stored heldWith counted takenRow frameBy brought heldAfter freshStation noRow stationAfter stationReset judged healthBy callsOn saidAfter stationOf half entry twoFrames twoChannels greaterLast greaterFirst tiedRows tiedBook nextDay sixLast recordAlone goodEntry illEntry illRecord raised01 raised10 raised11 raised00 illRaised00 laterRaised laterRecord
 witness =
     record {
       six2-sent = refl;
@@ -243,6 +298,9 @@ witness =
       sixGood-sent = refl;
       fiveNext-sent = refl;
       twoIll-sent = refl;
+      threeRaised-sent = refl;
+      four00-sent = refl;
+      four11-sent = refl;
       damaged-sent = refl;
       entry-there = refl;
       entry-asked = refl;
@@ -287,6 +345,13 @@ witness =
       usable = refl;
       not-by-C = refl;
       not-by-B = refl;
+      raised-01 = refl;
+      raised-10 = refl;
+      raised-11 = refl;
+      raised-00 = refl;
+      ill-raised-00 = refl;
+      later-raised = refl;
+      later-record = refl;
       no-record = refl;
       no-entry = refl;
       slot-0 = refl;

@@ -12,15 +12,21 @@ use lib.ListN.{length, getD}
 use lib.Seq.{getD-set-same, getD-set-other}
 use Rattle.strings.specs.Pick.{pick}
 use Rattle.strings.specs.Number.{wordOf}
+use Rattle.strings.proofs.WordOf.{word-lt}
+use Rattle.records.specs.declared.kinds.Kind.the-variants.{One, Two}
+use Rattle.words.specs.Good.{isGood}
 use Rattle.words.specs.Immediate.{stringAt}
-use Rattle.book.specs.Entry.{meaning}
+use Rattle.book.specs.declared.Book.{Book}
+use Rattle.book.specs.Entry.{Three, meaning}
 use Rattle.book.specs.Book.{slots, inSlot}
 use Rattle.strings.proofs.Below.{both}
 use Rattle.strings.proofs.DamagedExactly.{damaged-exactly}
 use Rattle.book.proofs.Order.{below-same}
 use Rattle.tallies.specs.declared.Tallies.{Tallies}
 use Rattle.channel.specs.Frame.{isHere}
+use Rattle.immediate.specs.declared.Immediate.{Immediate}
 use Rattle.immediate.specs.Kept.{hasRecord, recordIn, keptFour}
+use Rattle.immediate.proofs.Good.{four-good}
 use Rattle.channel.specs.Row.{frameOf}
 use Rattle.hearing.specs.Hears.{wholeOf}
 use Rattle.channel.specs.Offers.{isTaken, OnlyCounted, offeredRow, storesIt}
@@ -36,12 +42,12 @@ use Rattle.station.specs.declared.Health.{Health}
 use Rattle.station.specs.Station.{freshStation, noRow, rowAt, isNoChannel, stationAfter, stationReset, OffersTo}
 use Rattle.station.specs.History.{Call, callsOn, Runs, fresh, offering, resetting, stationOf}
 use Rattle.station.specs.declared.Health.the-variants.{Unknown, Usable, NotUsable}
-use Rattle.station.specs.Queries.{keptAt, isSlot, isEmpty, topOfB, satelliteOf, statusOf, judged, healthBy}
+use Rattle.station.specs.Queries.{keptAt, isSlot, isEmpty, topOfB, satelliteOf, lOf, modelOf, lCounted, statusOf, judged, isKnown, statusIn, healthBy}
 use Rattle.station.specs.Said.{callsOf}
 use Rattle.station.specs.Demand1.{WellMade, RefusalLeaves, ChannelLeaves}
 use Rattle.station.specs.Demand2.{Counted}
 use Rattle.station.specs.Demand3.{Answered, SameShown, SameBooks, BookRule}
-use Rattle.station.specs.Health.{KnownIn, UsableIn, HealthIn}
+use Rattle.station.specs.Health.{KnownIn, UsableIn, HealthIn, DifferInBit65, ReservedBit, healthBefore, UsedUnfit, RulesDiffer}
 use Rattle.station.specs.Demands.{AllDemands}
 use Rattle.station.proofs.ChannelRuns.{in-step, served-below, after-none, after-some, reset-none, row-offers}
 use Rattle.station.proofs.EveryHistory.{every-history}
@@ -101,27 +107,49 @@ pub book-rule : (cs : List Call) (st : Station) → Runs cs st → (slot : ℕ) 
 book-rule cs st run slot least most = record { greatest = greatest-there cs st run slot least most; empty = empty-exactly cs st run slot least most }
 
 -- ---- HEALTH
--- what the judgement says
-judged-usable : (b c : ℕ) → (judged b c ≡ Usable) ↔ ((b ≡ 0) × (c ≡ 1))
-unfolding judged
-judged-usable b c = by (eqb b 0) (eqb c 1) refl refl
+-- when l counts
+l-counts : (m l : ℕ) → (lCounted m l ≡ 0) ↔ ((m ≡ 0) ⊎ (l ≡ 0))
+l-counts m l = by (eqb m 0) refl
   where
-    by : (t u : Bool) → eqb b 0 ≡ t → eqb c 1 ≡ u → (pick (t && u) Usable NotUsable ≡ Usable) ↔ ((b ≡ 0) × (c ≡ 1))
-    by true true p q = ((λ e. (eqb-true b 0 p, eqb-true c 1 q)), (λ e. refl))
-    by true false p q = ((λ e. let z : _≡_ {A = ℕ} 0 1 = cc in absurd (omega arith)), (λ e. absurd (eqb-false c 1 q (e .1))))
-    by false u p q = ((λ e. let z : _≡_ {A = ℕ} 0 1 = cc in absurd (omega arith)), (λ e. absurd (eqb-false b 0 p (e .0))))
+    by : (t : Bool) → eqb m 0 ≡ t → (pick t 0 l ≡ 0) ↔ ((m ≡ 0) ⊎ (l ≡ 0))
+    by true p = ((λ e. inl (eqb-true m 0 p)), (λ e. refl))
+    by false p = (inr, ⊎-elim (λ (z : m ≡ 0). absurd (eqb-false m 0 p z)) (λ (z : l ≡ 0). z))
+
+-- what the judgement says
+judged-usable : (b l c : ℕ) → (judged b l c ≡ Usable) ↔ ((b ≡ 0) × ((l ≡ 0) × (c ≡ 1)))
+unfolding judged
+judged-usable b l c = by (eqb b 0) (eqb l 0) (eqb c 1) refl refl refl
+  where
+    by : (t u v : Bool) → eqb b 0 ≡ t → eqb l 0 ≡ u → eqb c 1 ≡ v → (pick (t && (u && v)) Usable NotUsable ≡ Usable) ↔ ((b ≡ 0) × ((l ≡ 0) × (c ≡ 1)))
+    by true true true p q r = ((λ e. (eqb-true b 0 p, (eqb-true l 0 q, eqb-true c 1 r))), (λ e. refl))
+    by true true false p q r = ((λ e. let z : _≡_ {A = ℕ} 0 1 = cc in absurd (omega arith)), (λ e. absurd (eqb-false c 1 r (e .1 .1))))
+    by true false v p q r = ((λ e. let z : _≡_ {A = ℕ} 0 1 = cc in absurd (omega arith)), (λ e. absurd (eqb-false l 0 q (e .1 .0))))
+    by false u v p q r = ((λ e. let z : _≡_ {A = ℕ} 0 1 = cc in absurd (omega arith)), (λ e. absurd (eqb-false b 0 p (e .0))))
 
 not-both : Unknown ≡ Usable → ⊥
 not-both q = let z : _≡_ {A = ℕ} 0 1 = cc in omega arith
 
 -- it is never unknown
-not-unknown : (b c : ℕ) → judged b c ≡ Unknown → ⊥
+not-unknown : (b l c : ℕ) → judged b l c ≡ Unknown → ⊥
 unfolding judged
-not-unknown b c = by (eqb b 0 && eqb c 1)
+not-unknown b l c = by (eqb b 0 && (eqb l 0 && eqb c 1))
   where
     by : (t : Bool) → pick t Usable NotUsable ≡ Unknown → ⊥
     by true q = let z : _≡_ {A = ℕ} 0 1 = cc in omega arith
     by false q = let z : _≡_ {A = ℕ} 0 1 = cc in omega arith
+
+-- so where it is not usable, it says so
+not-usable : (b l c : ℕ) → (judged b l c ≡ Usable → ⊥) → judged b l c ≡ NotUsable
+unfolding judged
+not-usable b l c = by (eqb b 0 && (eqb l 0 && eqb c 1))
+  where
+    by : (t : Bool) → (pick t Usable NotUsable ≡ Usable → ⊥) → pick t Usable NotUsable ≡ NotUsable
+    by true n = absurd (n refl)
+    by false n = refl
+
+-- the judgement of a record and a book
+abbrev judgement : Immediate → Book → Health
+judgement i b = judged (topOfB i) (lCounted (modelOf i) (lOf i)) (statusIn i b)
 
 module _ (cs : List Call) (st : Station) (run : Runs cs st) (c : ℕ) (e : isNoChannel c ≡ false) where
   kept-is : recordIn (keptAt st c) ≡ recordAfter (callsOn c cs)
@@ -160,8 +188,18 @@ module _ (cs : List Call) (st : Station) (run : Runs cs st) (c : ℕ) (e : isNoC
         by true h q = (h, q)
         by false h q = let z : _≡_ {A = ℕ} 0 4 = ap length q in absurd (omega arith)
 
-    its-two : stringAt (keptAt st c .strings) 1 ≡ w .two
-    its-two = ap (λ (l : List ℕ). getD l 1 0) (there .1)
+    -- the bits of it that decide
+    abbrev top : ℕ
+    top = wordOf (w .two) 80 80
+
+    abbrev its-l : ℕ
+    its-l = lCounted (wordOf (w .four) 10 9) (wordOf (w .three) 65 65)
+
+    top-is : topOfB (keptAt st c) ≡ top
+    top-is = ap (λ (l : List ℕ). wordOf (getD l 1 0) 80 80) (there .1)
+
+    l-is : lCounted (modelOf (keptAt st c)) (lOf (keptAt st c)) ≡ its-l
+    l-is = ap (λ (l : List ℕ). lCounted (wordOf (getD l 3 0) 10 9) (wordOf (getD l 2 0) 65 65)) (there .1)
 
     its-slot : satelliteOf (keptAt st c) ≡ n
     its-slot = ap (λ (l : List ℕ). wordOf (getD l 3 0) 15 11) (there .1)
@@ -180,11 +218,11 @@ module _ (cs : List Call) (st : Station) (run : Runs cs st) (c : ℕ) (e : isNoC
         (w .greatest .none-above (meaning (inSlot (st .book) n)) (g .shown))
 
     -- so the judgement decides
-    known-judged : healthBy (keptAt st c) (st .book) ≡ judged (wordOf (w .two) 80 80) (statusOf (w .entry))
+    known-judged : healthBy (keptAt st c) (st .book) ≡ judged top its-l (statusOf (w .entry))
     unfolding healthBy
     known-judged =
         rw (there .0, its-slot, w .slot, ne-eqb (inSlot (st .book) n .day) 0 not-empty)
-        (ap₂ judged (ap (λ (x : ℕ). wordOf x 80 80) its-two) (ap statusOf its-entry))
+        (ap₂ (λ (b l : ℕ). judged b l (statusOf (meaning (inSlot (st .book) n)))) top-is l-is ∙ ap (λ (t : Three). judged top its-l (statusOf t)) its-entry)
 
   -- what the station's own answer stands on
   health-is : (h : Health) → healthBy (keptAt st c) (st .book) ≡ h → ((h ≡ Unknown) × (KnownIn cs c → ⊥)) ⊎ KnownIn cs c
@@ -192,11 +230,10 @@ module _ (cs : List Call) (st : Station) (run : Runs cs st) (c : ℕ) (e : isNoC
   health-is h = by (hasRecord (keptAt st c)) (isSlot (satelliteOf (keptAt st c))) (isEmpty (st .book) (satelliteOf (keptAt st c))) refl refl refl
     where
       none : healthBy (keptAt st c) (st .book) ≡ Unknown → KnownIn cs c → ⊥
-      none q w = not-unknown (wordOf (w .two) 80 80) (statusOf (w .entry)) (sym (known-judged w) ∙ q)
+      none q w = not-unknown (top w) (its-l w) (statusOf (w .entry)) (sym (known-judged w) ∙ q)
 
       by : (t u v : Bool) → hasRecord (keptAt st c) ≡ t → isSlot (satelliteOf (keptAt st c)) ≡ u → isEmpty (st .book) (satelliteOf (keptAt st c)) ≡ v
-          → pick (t && (u && not v)) (judged (topOfB (keptAt st c)) (statusOf (meaning (inSlot (st .book) (satelliteOf (keptAt st c)))))) Unknown ≡ h
-          → ((h ≡ Unknown) × (KnownIn cs c → ⊥)) ⊎ KnownIn cs c
+          → pick (t && (u && not v)) (judgement (keptAt st c) (st .book)) Unknown ≡ h → ((h ≡ Unknown) × (KnownIn cs c → ⊥)) ⊎ KnownIn cs c
       by true true false a b d q = inr (known-there a b d)
       by true true true a b d q = inl (sym q, none (rw (a, b, d)))
       by true false v a b d q = inl (sym q, none (rw (a, b)))
@@ -209,17 +246,83 @@ module _ (cs : List Call) (st : Station) (run : Runs cs st) (c : ℕ) (e : isNoC
       let split = health-is h refl in
       record {
         unknown = (
-          (λ q w. not-unknown (wordOf (w .two) 80 80) (statusOf (w .entry)) (sym (known-judged w) ∙ q)),
+          (λ q w. not-unknown (top w) (its-l w) (statusOf (w .entry)) (sym (known-judged w) ∙ q)),
           (λ n. ⊎-elim (λ (x : (h ≡ Unknown) × (KnownIn cs c → ⊥)). x .0) (λ (w : KnownIn cs c). absurd (n w)) split),
         );
         usable = (
           (λ q. ⊎-elim (λ (x : (h ≡ Unknown) × (KnownIn cs c → ⊥)). absurd (not-both (sym (x .0) ∙ q)))
               (λ (w : KnownIn cs c).
-              let j = judged-usable (wordOf (w .two) 80 80) (statusOf (w .entry)) .0 (sym (known-judged w) ∙ q) in
-              record { known = w; top-of-B = j .0; status = j .1 }) split),
-          (λ (u : UsableIn cs c). known-judged (u .known) ∙ judged-usable (wordOf (u .known .two) 80 80) (statusOf (u .known .entry)) .1 (u .top-of-B, u .status)),
+              let j = judged-usable (top w) (its-l w) (statusOf (w .entry)) .0 (sym (known-judged w) ∙ q) in
+              record { known = w; top-of-B = j .0; M-or-l = l-counts (wordOf (w .four) 10 9) (wordOf (w .three) 65 65) .0 (j .1 .0); status = j .1 .1 }) split),
+          (λ (u : UsableIn cs c).
+              let w = u .known in
+              let l = l-counts (wordOf (w .four) 10 9) (wordOf (w .three) 65 65) .1 (u .M-or-l) in
+              known-judged w ∙ judged-usable (top w) (its-l w) (statusOf (w .entry)) .1 (u .top-of-B, (l, u .status))),
         );
       }
+
+-- ---- WHAT l CHANGED
+-- there is a record where there is one with another string 3: no word of a string 3 can be out of range
+same-record : (i j : Immediate) → DifferInBit65 i j → hasRecord j ≡ hasRecord i
+unfolding hasRecord
+same-record i j d =
+    let s = i .strings in
+    let r = j .strings in
+    four-good (stringAt r 0) (stringAt r 1) (stringAt r 2) (stringAt r 3)
+    ∙ ap₂ (λ (x y : ℕ). isGood One x && isGood Two y) (d .one) (d .two)
+    ∙ sym (four-good (stringAt s 0) (stringAt s 1) (stringAt s 2) (stringAt s 3))
+
+pub reserved-bit : ReservedBit
+unfolding healthBy
+reserved-bit i j b d old = rw (same-record i j d, d .two, d .four, old)
+
+module _ (i : Immediate) (b : Book) where
+  abbrev M : ℕ
+  M = wordOf (stringAt (i .strings) 3) 10 9
+
+  abbrev l : ℕ
+  l = wordOf (stringAt (i .strings) 2) 65 65
+
+  not-by-l : (M ≡ 0 → ⊥) → l ≡ 1 → judgement i b ≡ Usable → ⊥
+  not-by-l other raised q =
+      ⊎-elim other (λ (z : l ≡ 0). omega arith) (l-counts M l .0 (judged-usable (topOfB i) (lCounted M l) (statusIn i b) .0 q .1 .0))
+
+  never-usable : (M ≡ 0 → ⊥) → l ≡ 1 → healthBy i b ≡ Usable → ⊥
+  unfolding healthBy
+  never-usable other raised = by (isKnown i b)
+    where
+      by : (t : Bool) → pick t (judgement i b) Unknown ≡ Usable → ⊥
+      by true q = not-by-l other raised q
+      by false q = not-both q
+
+  not-usable-now : UsedUnfit i b → healthBy i b ≡ NotUsable
+  unfolding healthBy healthBefore
+  not-usable-now u = by (isKnown i b) (u .before)
+    where
+      by : (t : Bool) → pick t (pick (eqb (topOfB i) 0 && eqb (statusIn i b) 1) Usable NotUsable) Unknown ≡ Usable → pick t (judgement i b) Unknown ≡ NotUsable
+      by true q = not-usable (topOfB i) (lCounted M l) (statusIn i b) (not-by-l (u .M) (u .l))
+      by false q = absurd (not-both q)
+
+  -- l counts and is not 0: then M is not 00, and l is 1
+  used-unfit : healthBefore i b ≡ Usable → (lCounted M l ≡ 0 → ⊥) → UsedUnfit i b
+  used-unfit q n =
+      let z : l ≡ 0 → ⊥ = λ e. n (l-counts M l .1 (inr e)) in
+      record { before = q; M = λ e. n (l-counts M l .1 (inl e)); l = omega (arith, word-lt (stringAt (i .strings) 2) 65 65) }
+
+  as-before : (UsedUnfit i b → ⊥) → healthBy i b ≡ healthBefore i b
+  unfolding healthBy judged healthBefore
+  as-before n = by (isKnown i b) (eqb (topOfB i) 0) (eqb (lCounted M l) 0) (eqb (statusIn i b) 1) refl refl refl refl
+    where
+      by : (t u v w : Bool) → isKnown i b ≡ t → eqb (topOfB i) 0 ≡ u → eqb (lCounted M l) 0 ≡ v → eqb (statusIn i b) 1 ≡ w
+          → pick t (pick (u && (v && w)) Usable NotUsable) Unknown ≡ pick t (pick (u && w) Usable NotUsable) Unknown
+      by true true true w p q r s = refl
+      by true true false true p q r s = absurd (n (used-unfit (rw (p, q, s)) (eqb-false (lCounted M l) 0 r)))
+      by true true false false p q r s = refl
+      by true false v w p q r s = refl
+      by false u v w p q r s = refl
+
+pub rules-differ : (i : Immediate) (b : Book) → RulesDiffer i b
+rules-differ i b = record { there = not-usable-now i b; elsewhere = as-before i b }
 
 -- ---- the station that the calls leave, as a function
 pub runs-is : (cs : List Call) (st : Station) → Runs cs st → st ≡ stationOf cs
@@ -266,4 +369,7 @@ demands =
       every-beat = λ h phase. let w = every-phase h phase in (w .0, (w .1, w .2));
       relock = relocked;
       health = health-in;
+      reserved-bit = reserved-bit;
+      never-usable = never-usable;
+      rules-differ = rules-differ;
     }

@@ -9,7 +9,9 @@ use mathlib.Core.Path.{_≡_}
 use lib.ListN.{length}
 use Rattle.strings.specs.Hamming.{Encoded}
 use Rattle.strings.specs.Damage.{DamagedExactly}
+use Rattle.book.specs.declared.Book.{Book}
 use Rattle.book.specs.Book.{slots}
+use Rattle.immediate.specs.declared.Immediate.{Immediate}
 use Rattle.channel.specs.Offers.{isTaken}
 use Rattle.channel.specs.Relock.{Heard, FirstOf15}
 use Rattle.station.specs.declared.Station.{Station}
@@ -26,7 +28,7 @@ use Rattle.station.specs.EitherWay.{EitherWay, EveryHistoryAlike}
 use Rattle.station.specs.Demand2.{Tallied, Counted}
 use Rattle.station.specs.Demand3.{Answered, Exchanged, SameCalls, Reordered, SameShown, SameBooks, BookRule}
 use Rattle.station.specs.Relock.{EveryBeat, Relocked}
-use Rattle.station.specs.Health.{HealthIn}
+use Rattle.station.specs.Health.{HealthIn, ReservedBit, NeverUsable, RulesDiffer}
 
 pub record AllDemands : Type 0 where
   -- ==== 1. "Every call answers, for every input and every station it is handed."
@@ -90,3 +92,8 @@ pub record AllDemands : Type 0 where
       → (f : ℕ) → FirstOf15 (rowAt (r .station) c .start) f → Relocked c f taken (r .station)
   -- "Without a record, or without a book entry for its n, a channel's satellite is unknown. Otherwise it is usable if .."
   pub health : (cs : List Call) (st : Station) → Runs cs st → (c : ℕ) → isNoChannel c ≡ false → HealthIn cs c (healthBy (keptAt st c) (st .book))
+  -- "With M = 00, bit 65 of string 3 is a reserved bit and plays no part in health"; with any other M "usable only if .. l of string 3 is 0"; and nothing
+  -- else changed: of any kept record and any book
+  pub reserved-bit : ReservedBit
+  pub never-usable : NeverUsable
+  pub rules-differ : (i : Immediate) (b : Book) → RulesDiffer i b

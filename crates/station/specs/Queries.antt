@@ -91,18 +91,36 @@ topOfB i = wordOf (stringAt (i .strings) 1) 80 80
 abbrev pub satelliteOf : Immediate → ℕ
 satelliteOf i = wordOf (stringAt (i .strings) 3) 15 11
 
+-- "l of string 3": bit 65
+abbrev pub lOf : Immediate → ℕ
+lOf i = wordOf (stringAt (i .strings) 2) 65 65
+
+-- M, the satellite's modification: string 4, bits 9-10
+abbrev pub modelOf : Immediate → ℕ
+modelOf i = wordOf (stringAt (i .strings) 3) 10 9
+
+-- "With M = 00, bit 65 of string 3 is a reserved bit and plays no part in health"; "Other codes of M are read as 01.": l counts unless M is 00
+abbrev pub lCounted : ℕ → ℕ → ℕ
+lCounted model l = pick (eqb model 0) 0 l
+
 -- C of an entry: bit 80 of its even string
 abbrev pub statusOf : Three → ℕ
 statusOf t = wordOf (t .even * 2 ^ 8) 80 80
 
--- "usable if the record has the top bit of B at 0 and the entry has C = 1, and not usable if either fails"
-unfoldable pub judged : ℕ → ℕ → Health
-judged b c = pick (eqb b 0 && eqb c 1) Usable NotUsable
+-- "usable only if the top bit of B is 0, l of string 3 is 0 and the book has C = 1", and not usable if one of them fails
+unfoldable pub judged : ℕ → ℕ → ℕ → Health
+judged b l c = pick (eqb b 0 && (eqb l 0 && eqb c 1)) Usable NotUsable
 
 -- "Without a record, or without a book entry for its n, a channel's satellite is unknown"
+abbrev pub isKnown : Immediate → Book → Bool
+isKnown i b = hasRecord i && (isSlot (satelliteOf i) && not (isEmpty b (satelliteOf i)))
+
+-- C in the book for the record's n
+abbrev pub statusIn : Immediate → Book → ℕ
+statusIn i b = statusOf (meaning (inSlot b (satelliteOf i)))
+
 unfoldable pub healthBy : Immediate → Book → Health
-healthBy i b =
-    pick (hasRecord i && (isSlot (satelliteOf i) && not (isEmpty b (satelliteOf i)))) (judged (topOfB i) (statusOf (meaning (inSlot b (satelliteOf i))))) Unknown
+healthBy i b = pick (isKnown i b) (judged (topOfB i) (lCounted (modelOf i) (lOf i)) (statusIn i b)) Unknown
 
 -- 0 unknown, 1 usable, 2 not usable
 abbrev pub healthNumber : Health → ℕ

@@ -16,7 +16,7 @@ use words::immediate_words;
 use words::word_in;
 ghost use mathlib.Core.Path.{_≡_};
 ghost use Prim.Native.Nat.{_/_, _%_};
-ghost use Rattle.station.specs.Queries.{FindsRecord, FindsEntry, FindsTallies, FindsHealth, healthBy, judged};
+ghost use Rattle.station.specs.Queries.{FindsRecord, FindsEntry, FindsTallies, FindsHealth, healthBy, lOf, modelOf, lCounted, judged};
 
 // The words of a channel's immediate record.
 pub fn immediate_of(st: Station, channel: u8) -> RecordFound
@@ -100,16 +100,32 @@ fn health_by(kept: Immediate, b: Book) -> Health
         return Health::Unknown;
     }
     let bad = word_in(&s[11..22], 80, 80);
-    judge(bad, e.etop)
+    let l = l_counted(kept);
+    judge(bad, l, e.etop)
 }
 
-// By the top bit of B, and by C, the top bit of the entry's even half.
-fn judge(bad: u32, etop: u8) -> Health
-    ensures { λ r. ⌜ r ≡ judged bad (etop / 128 % 2) ⌝ }
+// l of a record, where it counts: bit 65 of string 3, which is a reserved bit where M is 00.
+fn l_counted(kept: Immediate) -> u32
+    ensures { λ r. ⌜ r ≡ lCounted (modelOf kept) (lOf kept) ⌝ }
+{
+    let s = kept.strings;
+    let bit65 = word_in(&s[22..33], 65, 65);
+    let model = word_in(&s[33..44], 10, 9);
+    if model == 0 {
+        return 0;
+    }
+    bit65
+}
+
+// By the top bit of B, by l, and by C, the top bit of the entry's even half.
+fn judge(bad: u32, l: u32, etop: u8) -> Health
+    ensures { λ r. ⌜ r ≡ judged bad l (etop / 128 % 2) ⌝ }
 {
     if bad == 0 {
-        if 128 <= etop {
-            return Health::Usable;
+        if l == 0 {
+            if 128 <= etop {
+                return Health::Usable;
+            }
         }
     }
     Health::NotUsable

@@ -90,19 +90,24 @@ part-word-in-end-2 c =
 word-in-requires-2 : tie.Need-word-in-requires-2
 word-in-requires-2 c κs = search needs
 
+l-counted-requires : tie.Need-l-counted-requires
+l-counted-requires c κs = search needs
+
 judge-requires : tie.Need-judge-requires
 judge-requires c κs = search needs
 
 returns-5 : tie.Need-returns-5
 unfolding healthBy
 returns-5 c =
-    let f = c .before .before .before .before in
+    let l = c .before in
+    let f = l .before .before .before .before in
     let e = f .before .before in
     let n = e .before .before .before in
     let d = n .before .before .before .before in
     rw (
       c .judge .ensures,
-      c .before .word-in2 .ensures,
+      ← l .l-counted .ensures,
+      l .before .word-in2 .ensures,
       is-so (d .before .has-record .ensures) (d .if1 .left),
       ← n .word-in .ensures,
       le-leb 1 (n .word-in .result) (omega arith),
@@ -132,5 +137,6 @@ health-by-spec =
     part-word-in-start-2
     part-word-in-end-2
     word-in-requires-2
+    l-counted-requires
     judge-requires
     returns-5)
