@@ -35,6 +35,7 @@ pub fn trial_input(seed: u64) -> Vec<u8> {
             station::entry_words::add_all,
             damage::add_all,
             station::polarity::add_all,
+            station::health_flags::add_all,
         ],
     )
 }

@@ -74,8 +74,8 @@ impl Station {
     }
 
     /// "Without a record, or without a book entry for its n, a channel's satellite
-    /// is unknown. Otherwise it is usable if the record has the top bit of B at 0
-    /// and the entry has C = 1, and not usable if either fails."
+    /// is unknown." Otherwise it is usable if the record does not call it unfit and
+    /// the entry has C = 1, as in Table 5.1, "and not usable if either fails".
     pub fn health(&self, channel: usize) -> Result<Health, Refusal> {
         let Some(record) = &self.row(channel)?.record else {
             return Ok(Health::Unknown);
@@ -83,7 +83,7 @@ impl Station {
         let Ok(entry) = self.book.entry(record.satellite) else {
             return Ok(Health::Unknown);
         };
-        match !record.malfunction && entry.is_operable() {
+        match !record.is_unfit && entry.is_operable() {
             true => Ok(Health::Usable),
             false => Ok(Health::NotUsable),
         }

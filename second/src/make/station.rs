@@ -4,6 +4,7 @@ mod almanac;
 pub(super) mod entry_words;
 mod frames;
 mod health;
+pub(super) mod health_flags;
 pub(super) mod polarity;
 mod record;
 mod refusals;

@@ -3,7 +3,9 @@
 use super::frame::Frame;
 use crate::refusal::Refusal;
 use crate::string::NavString;
-use crate::words::kinds::{Kind, B, SATELLITE, STRING_1, STRING_2, STRING_3, STRING_4};
+use crate::words::kinds::{
+    Kind, B, L_OF_STRING_3, SATELLITE, SATELLITE_TYPE, STRING_1, STRING_2, STRING_3, STRING_4,
+};
 use crate::words::read_words;
 
 /// The string numbers that a record is made of.
@@ -14,14 +16,17 @@ static KINDS_OF_A_RECORD: [&Kind; 4] = [&STRING_1, &STRING_2, &STRING_3, &STRING
 /// "The user navigation equipment analyzes the only one MSB of this word."
 const TOP_BIT_OF_B: i64 = 0b100;
 
+/// The code of M for a GLONASS satellite, which sends no l.
+const TYPE_WITHOUT_L: i64 = 0b00;
+
 #[derive(Clone, Debug, PartialEq, Eq)]
 pub struct ImmediateRecord {
     /// The words of the four strings in the paper's order, 26 in all.
     pub words: Vec<i64>,
     /// n, the satellite that sends.
     pub satellite: usize,
-    /// "The top bit of B."
-    pub malfunction: bool,
+    /// The satellite calls itself unfit, by the top bit of B or by l.
+    pub is_unfit: bool,
 }
 
 /// The strings of a record, once a frame has all four.
@@ -36,10 +41,23 @@ pub fn read_record(strings: &[NavString; 4]) -> Result<ImmediateRecord, Refusal>
     for (kind, string) in KINDS_OF_A_RECORD.iter().zip(strings) {
         words.extend(read_words(kind, string)?);
     }
-    let [_, second, _, fourth] = strings;
+    let [_, second, third, fourth] = strings;
     Ok(ImmediateRecord {
         words,
         satellite: SATELLITE.read(fourth)? as usize,
-        malfunction: B.read(second)? & TOP_BIT_OF_B != 0,
+        is_unfit: is_unfit_by_b(second) || is_unfit_by_l(third, fourth),
     })
+}
+
+fn is_unfit_by_b(second: &NavString) -> bool {
+    B.value_in(second) & TOP_BIT_OF_B != 0
+}
+
+/// "With M = 00, bit 65 of string 3 is a reserved bit and plays no part in health";
+/// "other codes of M are read as 01".
+fn is_unfit_by_l(third: &NavString, fourth: &NavString) -> bool {
+    match SATELLITE_TYPE.value_in(fourth) {
+        TYPE_WITHOUT_L => false,
+        _ => L_OF_STRING_3.value_in(third) == 1,
+    }
 }

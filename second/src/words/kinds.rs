@@ -67,7 +67,9 @@ pub const L: Word = plain("l", 9, 9);
 pub const TK: Word = word("tk", 76, 65, Form::TimeOfDay);
 pub const H: Word = word("H", 14, 10, Form::Carrier);
 pub const B: Word = plain("B", 80, 78);
+pub const L_OF_STRING_3: Word = plain("l", 65, 65);
 pub const SATELLITE: Word = plain("n", 15, 11);
+pub const SATELLITE_TYPE: Word = plain("M", 10, 9);
 pub const ALMANAC_DAY: Word = within("NA", 80, 70, 1, 1461);
 pub const FOUR_YEAR_PERIOD: Word = plain("N4", 36, 32);
 pub const ALMANAC_C: Word = plain("C", 80, 80);
@@ -105,7 +107,7 @@ pub static STRING_3: Kind = Kind {
         plain("P3", 80, 80),
         signed("gamma", 79, 69),
         plain("P", 67, 66),
-        plain("l", 65, 65),
+        L_OF_STRING_3,
         velocity("z velocity"),
         acceleration("z acceleration"),
         coordinate("z"),
@@ -123,7 +125,7 @@ pub static STRING_4: Kind = Kind {
         plain("FT", 33, 30),
         plain("NT", 26, 16),
         SATELLITE,
-        plain("M", 10, 9),
+        SATELLITE_TYPE,
     ],
 };
 

@@ -22,7 +22,7 @@ pub(super) fn add_all(input: &mut Input) {
 }
 
 /// String 5 and the pair of strings 6 and 7.
-type Three = [NavString; 3];
+pub(super) type Three = [NavString; 3];
 
 impl Input {
     /// Five frames on one channel, then the same on another: all 24 slots.
@@ -87,14 +87,14 @@ impl Input {
         self.ask_slots([7]);
     }
 
-    fn three(&mut self, slot: usize) -> Three {
+    pub(super) fn three(&mut self, slot: usize) -> Three {
         let upload = self.upload();
         let [even, odd] = upload.pairs[slot - 1];
         [upload.string_5, with_m(&even, 6), with_m(&odd, 7)]
     }
 
     /// Shows the three on a channel that holds nothing else, as the pair 2k, 2k + 1.
-    fn show(&mut self, channel: u8, three: &Three) {
+    pub(super) fn show(&mut self, channel: u8, three: &Three) {
         let m = 6 + 2 * self.random.below(4);
         let [string_5, even, odd] = *three;
         self.reset(channel);
