@@ -69,13 +69,23 @@ function tell_axis(a) {
         w["v" a], w["v" a] / 2 ^ 20, w["a" a], w["a" a] / 2 ^ 30
 }
 
-# Beside the station's answer stands what decides it: B of the record, C of the book's entry for its n.
+# Beside the station's answer stands what decides it: B, l and M of the record, C of the book's entry for its n; and where
+# it is not usable, which of them says so.
 function tell_health(channel,    h) {
     split(health[channel], h, " ")
     if (h[2] in judged)
-        printf "  health: %s (top bit of B %d; in the book slot %d has C = %d)\n",
-            judged[h[2]], int(w["B"] / 4), w["n"], good(w["n"])
+        printf "  health: %s%s (top bit of B %d, M %d%d, l %d%s; in the book slot %d has C = %d)\n", judged[h[2]], against(),
+            int(w["B"] / 4), int(w["M"] / 2), w["M"] % 2, w["l"], w["M"] ? "" : " reserved", w["n"], good(w["n"])
     else print "  health: unknown (no record, or no entry for its n)"
+}
+
+# What speaks against a satellite. With M 00 bit 65 of string 3 is no l.
+function against(    why) {
+    if (w["B"] >= 4) why = why ", B is raised"
+    if (w["M"] && w["l"]) why = why ", l is raised"
+    if (!good(w["n"])) why = why ", C is 0"
+    sub(/^, /, ": ", why)
+    return why
 }
 
 function tell_slot(slot,    e, n4, na) {
