@@ -2,6 +2,7 @@
 -- them freed (free-all). A call of a function that takes plain values and gives one back (asks).
 -- Assumes `Given`, and that the table of calls is monotone under a frame.
 use mathlib.Core.Path.{_≡_, sym, ap, subst}
+use mathlib.Core.Bool.{Bool, true, false}
 use mathlib.Core.List.{List, [], _∷_, _++_}
 use mathlib.Core.Option.{Option, none, some as holding}
 use Prim.Native.Nat.{ℕ, zero, _+_}
@@ -18,7 +19,7 @@ use prog.Wp.{Heap, Env, Spot, spotOf, Calls, Loops, release}
 use ghost.Atoms.{Atoms, sem}
 use contract.Monad.{fact}
 use sound.WpLaws.{FmC}
-use types.Kit.{Given, Item, ‵, raw, _⊛_, some, later, mean, ⋆, nth, put, ⊢++, Post, Goal, runs, lands, frees, aim, Seq, Step, step, _$_, move, drop, use0, use1, split, pick, await}
+use types.Kit.{Given, Item, ‵, raw, _⊛_, some, later, mean, ⋆, nth, put, ⊢++, ++⊢, Post, Goal, runs, lands, frees, aim, Seq, Step, step, _$_, move, drop, use0, use1, split, pick, await}
 use types.Run.{Reads, Writes, Walks, Finds, Rv, Opd, Opds, load, from, fld, stop, look, init, assigns}
 use types.Part.{Part, whole, sub, look-in}
 use denote.RattleType.{RattleType}
@@ -26,6 +27,13 @@ use denote.Laws.{Is, Tells, shows}
 use denote.Steps.{only, heard, facts}
 use denote.Triple.Statement.{Contract, Triple}
 use denote.Triple.Call.{calls-at}
+
+-- of what locals hold, what is marked; past the marks all is forgotten
+abbrev pub kept : List Bool → List (Option Val) → List (Option Val)
+kept [] vs = []
+kept (m ∷ ms) [] = []
+kept (true ∷ ms) (v ∷ vs) = v ∷ kept ms vs
+kept (false ∷ ms) (v ∷ vs) = none ∷ kept ms vs
 
 module _ {M : Type 1} (𝓤 : URA M) (H : Heap 𝓤) where
   abbrev pub envOf : List Local → List ℕ → Env 𝓤 H
@@ -66,12 +74,37 @@ module _ {M : Type 1} (𝓤 : URA M) (H : Heap 𝓤) (A : Atoms 𝓤) (W : Given
   all-freed (e ∷ E) [] P = one-freed e none (locals 𝓤 H E []) P (release 𝓤 H E P) (all-freed E [] P)
   all-freed (e ∷ E) (v ∷ vs) P = one-freed e v (locals 𝓤 H E vs) P (release 𝓤 H E P) (all-freed E vs P)
 
+  -- of a local that holds something the value is kept, or forgotten
+  one-kept : (e : Ty × ℕ) (v w : Option Val) (Γ Γ′ : List (Item 𝓤)) → ent 𝓤 (mean 𝓤 H A (cellOf 𝓤 H e v)) (mean 𝓤 H A (cellOf 𝓤 H e w)) → ent 𝓤 (⋆ 𝓤 H A Γ) (⋆ 𝓤 H A Γ′)
+      → ent 𝓤 (⋆ 𝓤 H A (Γ ++ (cellOf 𝓤 H e v ∷ dies 𝓤 H e ∷ []))) (⋆ 𝓤 H A (Γ′ ++ (cellOf 𝓤 H e w ∷ dies 𝓤 H e ∷ [])))
+  one-kept e v w Γ Γ′ c h =
+      let D = H .dies (e .0) (e .1) in
+      via 𝓤 (sep 𝓤 (⋆ 𝓤 H A Γ) (sep 𝓤 (mean 𝓤 H A (cellOf 𝓤 H e v)) D)) (⊢++ 𝓤 H A Γ (cellOf 𝓤 H e v ∷ dies 𝓤 H e ∷ []))
+      (via 𝓤 (sep 𝓤 (⋆ 𝓤 H A Γ′) (sep 𝓤 (mean 𝓤 H A (cellOf 𝓤 H e v)) D)) (monoL 𝓤 (sep 𝓤 (mean 𝓤 H A (cellOf 𝓤 H e v)) D) h)
+      (via 𝓤 (sep 𝓤 (⋆ 𝓤 H A Γ′) (sep 𝓤 (mean 𝓤 H A (cellOf 𝓤 H e w)) D)) (monoR 𝓤 (⋆ 𝓤 H A Γ′) (monoL 𝓤 D c)) (++⊢ 𝓤 H A Γ′ (cellOf 𝓤 H e w ∷ dies 𝓤 H e ∷ []))))
+
+  some-kept : (E : Env 𝓤 H) (ms : List Bool) (vs : List (Option Val)) → ent 𝓤 (⋆ 𝓤 H A (locals 𝓤 H E vs)) (⋆ 𝓤 H A (locals 𝓤 H E (kept ms vs)))
+  some-kept [] ms vs = id⊢ 𝓤 (emp 𝓤)
+  some-kept (e ∷ E) [] [] = id⊢ 𝓤 _
+  some-kept (e ∷ E) [] (v ∷ vs) = one-kept e v none (locals 𝓤 H E vs) (locals 𝓤 H E []) (roomy e v) (some-kept E [] vs)
+  some-kept (e ∷ E) (m ∷ ms) [] = id⊢ 𝓤 _
+  some-kept (e ∷ E) (true ∷ ms) (v ∷ vs) = one-kept e v v (locals 𝓤 H E vs) (locals 𝓤 H E (kept ms vs)) (id⊢ 𝓤 _) (some-kept E ms vs)
+  some-kept (e ∷ E) (false ∷ ms) (v ∷ vs) = one-kept e v none (locals 𝓤 H E vs) (locals 𝓤 H E (kept ms vs)) (roomy e v) (some-kept E ms vs)
+
 module _ {M : Type 1} {𝓤 : URA M} {H : Heap 𝓤} {A : Atoms 𝓤} {K : Type 0} {W : Given 𝓤 H A} where
   -- the function's locals are freed, whatever they hold; Δ is what is left
   pub free-all : (Δ : List (Item 𝓤)) (vs : List (Option Val)) → K → {E : Env 𝓤 H} {g : Goal 𝓤 H} → Step K W Δ g (Δ ++ locals 𝓤 H E vs) (frees E g)
   free-all Δ vs t {E} {g} = step (λ s. record {
     prf = via 𝓤 (sep 𝓤 (⋆ 𝓤 H A Δ) (⋆ 𝓤 H A (locals 𝓤 H E vs))) (⊢++ 𝓤 H A Δ (locals 𝓤 H E vs))
         (via 𝓤 (sep 𝓤 (aim 𝓤 H g) (⋆ 𝓤 H A (locals 𝓤 H E vs))) (monoL 𝓤 (⋆ 𝓤 H A (locals 𝓤 H E vs)) (s .prf)) (all-freed 𝓤 H A W E vs (aim 𝓤 H g)));
+  })
+
+  -- of all locals at once: what those hold that are marked is kept, and the others are room
+  pub keeps : (Δ : List (Item 𝓤)) (E : Env 𝓤 H) (ms : List Bool) (vs : List (Option Val)) → K → {g : Goal 𝓤 H} → Step K W (Δ ++ locals 𝓤 H E (kept ms vs)) g (Δ ++ locals 𝓤 H E vs) g
+  keeps Δ E ms vs t = step (λ s. record {
+    prf = via 𝓤 (sep 𝓤 (⋆ 𝓤 H A Δ) (⋆ 𝓤 H A (locals 𝓤 H E vs))) (⊢++ 𝓤 H A Δ (locals 𝓤 H E vs))
+        (via 𝓤 (sep 𝓤 (⋆ 𝓤 H A Δ) (⋆ 𝓤 H A (locals 𝓤 H E (kept ms vs)))) (monoR 𝓤 (⋆ 𝓤 H A Δ) (some-kept 𝓤 H A W E ms vs))
+        (via 𝓤 (⋆ 𝓤 H A (Δ ++ locals 𝓤 H E (kept ms vs))) (++⊢ 𝓤 H A Δ (locals 𝓤 H E (kept ms vs))) (s .prf)));
   })
 
   module _ {Γ : List (Item 𝓤)} {E : Env 𝓤 H} {C : Calls 𝓤 H} {f : Name} {xs : List Operand} {Λ : Loops 𝓤 H} {q : Post 𝓤 H} {d : Place} {rest : Body} where

@@ -4,6 +4,7 @@
 use mathlib.Core.Path.{_≡_, refl, sym, _∙_, ap}
 use mathlib.Core.Bool.{Bool, true, false, not}
 use mathlib.Core.List.{List, [], _∷_, map}
+use mathlib.Core.Option.{none, some as holding}
 use Prim.Native.Nat.{ℕ, _+_, _*_, _<_, _^_}
 use native.Mathlib.Omega.{arith}
 use lib.Dec.{T}
@@ -72,7 +73,7 @@ use Rattle.station.proofs.Station.Laws as ST′
 use Rattle.lent.specs.Lent.{BringsOne}
 use Rattle.lent.proofs.Item.{map-set, either-way, lows-set, low-is, low-typed, low-item}
 use Rattle.lent.proofs.Parts.{entryBytes, bookAt, rowsVal, bookVal, stationVal, rows-of, entries-of, book-made, made-of}
-use Rattle.lent.proofs.Walk.{envOf, locals, free-all, local-of, sets, asks}
+use Rattle.lent.proofs.Walk.{envOf, locals, free-all, keeps, local-of, sets, asks}
 use Rattle.lent.proofs.offering.bring_one.Key.{name as #lent·bring-one}
 use Rattle.lent.proofs.offering.bring_one as one
 use Rattle.lent.proofs.offering.bring_one.Statement as stated
@@ -226,9 +227,9 @@ module _ {M : Type 1} (𝓤 : URA M) (H : Heap 𝓤) (A : Atoms 𝓤) (W : Given
         assigns-last ! (of-opd ! (local-of ! 18 refl refl)) (from ! (hop ! (look ! 4 refl) (stop !))) (store-in ! 0 (low-item ! EN.the-type EN′.lowers (h .book .entries) (entries-of h _ ih) k (ek .1) blank (sub ! 0 refl (sub ! 1 refl (whole !)))) (entry-typed e ie)) $
         exec ! C Λ (En l₀ l₁ l₂ l₃ l₄ l₅ l₆ l₇ l₈ l₉ l₁₀ l₁₁ l₁₂ l₁₃ l₁₄ l₁₅ l₁₆) body.t-8 (atRet (En l₀ l₁ l₂ l₃ l₄ l₅ l₆ l₇ l₈ l₉ l₁₀ l₁₁ l₁₂ l₁₃ l₁₄ l₁₅ l₁₆) Post) $
         rewrite ! 0 (λ (ws : List Val). ‵ (fat fullShare ST′.mir b o (stationVal (rowsVal (h .rows)) (bookVal (arrayVal ws))))) (map-set EN′.lowered (h .book .entries) k e) refl $
-        forget ! 4 refl $ forget ! 6 refl $ forget ! 8 refl $ forget ! 10 refl $ forget ! 12 refl $ forget ! 14 refl $ forget ! 16 refl $ forget ! 18 refl $ forget ! 20 refl $ forget ! 22 refl $ forget ! 24 refl $ forget ! 26 refl $ forget ! 28 refl $ forget ! 30 refl $ forget ! 32 refl $ forget ! 34 refl $
+        keeps (_ ∷ _ ∷ _ ∷ _ ∷ []) (En l₀ l₁ l₂ l₃ l₄ l₅ l₆ l₇ l₈ l₉ l₁₀ l₁₁ l₁₂ l₁₃ l₁₄ l₁₅ l₁₆) [] (none ∷ holding _ ∷ holding _ ∷ holding _ ∷ holding _ ∷ holding _ ∷ holding _ ∷ holding _ ∷ holding _ ∷ holding _ ∷ holding _ ∷ holding _ ∷ holding _ ∷ holding _ ∷ holding _ ∷ holding _ ∷ holding _ ∷ []) ! $
         leaves l₀ l₁ l₂ l₃ l₄ l₅ l₆ l₇ l₈ l₉ l₁₀ l₁₁ l₁₂ l₁₃ l₁₄ l₁₅ l₁₆ (left h k e) _ (left-is k e ie ih) (joined-one h s k e (ek .0) ee)))
-        (λ f. forget ! 20 refl $ forget ! 22 refl $ forget ! 24 refl $ forget ! 26 refl $ forget ! 28 refl $ forget ! 30 refl $ forget ! 32 refl $ forget ! 34 refl $
+        (λ f. keeps (_ ∷ _ ∷ _ ∷ _ ∷ []) (En l₀ l₁ l₂ l₃ l₄ l₅ l₆ l₇ l₈ l₉ l₁₀ l₁₁ l₁₂ l₁₃ l₁₄ l₁₅ l₁₆) [] (none ∷ holding _ ∷ holding _ ∷ holding _ ∷ holding _ ∷ holding _ ∷ holding _ ∷ holding _ ∷ holding _ ∷ []) ! $
         leaves l₀ l₁ l₂ l₃ l₄ l₅ l₆ l₇ l₈ l₉ l₁₀ l₁₁ l₁₂ l₁₃ l₁₄ l₁₅ l₁₆ h _ ih (kept-one h s k y (ek .0) ey f)))))))))))))))))))))))
 
 module _ {M : Type 1} (𝓤 : URA M) (H : Heap 𝓤) (A : Atoms 𝓤) (W : Given 𝓤 H A) (mem : Memory → SProp 𝓤) (run : Routine → Fun 𝓤) (𝓣 : Tables 𝓤 H) (known-place : Triple 𝓤 (𝓣 .C #book·place-of) (Place 𝓤 H A mem run)) (known-rises : Triple 𝓤 (𝓣 .C #book·rises) (Rises 𝓤 H A mem run)) (known-join : Triple 𝓤 (𝓣 .C #book·join) (Join 𝓤 H A mem run)) where
