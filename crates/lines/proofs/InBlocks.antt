@@ -9,7 +9,8 @@ use lib.ListN.{length, take, drop, length-append, length-drop}
 use lib.Seq.{take-append-le, drop-append-le, drop-append-add}
 use Rattle.station.specs.declared.Station.{Station}
 use Rattle.station.specs.Station.{stationAfter}
-use Rattle.lines.specs.Line.{channelIn, epochIn, symbolsIn, lineFor}
+use Rattle.fields.specs.Sixteen.{channelIn, epochIn, symbolsIn}
+use Rattle.lines.specs.Line.{lineFor}
 use Rattle.lines.specs.Text.{lineText, leftOver, recordAt, stationAt, linesAt, listing}
 
 -- a record offered, and its line

@@ -7,8 +7,7 @@ use mathlib.Core.Logic.{⊎-elim}
 use Prim.Native.Nat.{ℕ, zero, suc}
 use native.Mathlib.Omega.{arith}
 use lib.Dec.{T, eqb}
-use lib.ListN.{length, getD, drop}
-use lib.Seq.{drop-cons}
+use lib.ListN.{getD, drop}
 use borrow.Author.Tests.{eq-eqb, eqb-true}
 use Rattle.strings.specs.Pick.{pick, isOneOf}
 use Rattle.strings.specs.declared.Refusal.{Refusal}
@@ -16,7 +15,7 @@ use Rattle.strings.specs.declared.Refusal.the-variants.{Channel, Shape, Damaged
 use Rattle.strings.specs.declared.hamming.Damage.the-variants.{Unplaced, Even, Outside}
 use Rattle.strings.specs.declared.Verdict.{Verdict}
 use Rattle.strings.specs.declared.Verdict.the-variants.{Clean, Repaired}
-use Rattle.strings.specs.Number.{valueOf, numberOf}
+use Rattle.strings.specs.Number.{numberOf}
 use Rattle.strings.proofs.Answer.{refusal-known}
 use Rattle.strings.specs.Numbers.{refusalPaper, Test, test, firstOf, placeOf, saidBy, answerOf}
 use Rattle.strings.specs.Calls.{soundTests}
@@ -37,7 +36,8 @@ use Rattle.station.specs.Station.{heldAt, isNoChannel, stationTests, toldIn, Of
 use Rattle.lines.specs.declared.Line.{Line}
 use Rattle.lines.specs.declared.Listed.{Listed}
 use Rattle.seen.specs.declared.seeing.Seen.{Seen}
-use Rattle.lines.specs.Line.{channelIn, epochIn, symbolsIn, beforeVerdict, beforeNumber, repairedFor, mFor, polarityFor, lineFor, Lists}
+use Rattle.fields.specs.Sixteen.{channelIn, epochIn, symbolsIn}
+use Rattle.lines.specs.Line.{beforeVerdict, beforeNumber, repairedFor, mFor, polarityFor, lineFor, Lists}
 use Rattle.seen.specs.Seen.{bitIn, seen, isHeard, seenIn, comesBeforeVerdict, seenBy}
 
 -- the refusals before the verdict are the paper's 1..4, with 31 to 33 for 3
@@ -173,11 +173,6 @@ module _ (st : Station) (c epoch : ℕ) (s : List ℕ) where
       by (Refused q) e n = seen-refused q n
 
 -- ---- the line of a record
--- the four bytes of the epoch
-pub epoch-is : (rec : List ℕ) → length rec ≡ 16 → valueOf (getD rec 1 0 ∷ getD rec 2 0 ∷ getD rec 3 0 ∷ getD rec 4 0 ∷ []) ≡ epochIn rec
-epoch-is rec h =
-    rw (drop-cons rec 1 0 (omega arith), drop-cons rec 2 0 (omega arith), drop-cons rec 3 0 (omega arith), drop-cons rec 4 0 (omega arith))
-
 -- a line is known by its six numbers
 abbrev six : Line → List ℕ
 six l = l .channel ∷ l .epoch ∷ l .number ∷ l .repaired ∷ l .m ∷ l .polarity ∷ []
@@ -190,17 +185,17 @@ line-same : (p q : Line) → p .channel ≡ q .channel → p .epoch ≡ q .epoch
 line-same p q a b c d e f = let n : six p ≡ six q = cc in ap lineBy n
 
 module _ (st : Station) (rec : List ℕ) where
-  abbrev lineOf : ℕ → ℕ → Seen → Line
-  lineOf epoch number x = record { channel = channelIn rec; epoch = epoch; number = number; repaired = x .repaired; m = x .m; polarity = x .polarity }
+  abbrev lineOf : ℕ → ℕ → ℕ → Seen → Line
+  lineOf c epoch number x = record { channel = c; epoch = epoch; number = number; repaired = x .repaired; m = x .m; polarity = x .polarity }
 
-  pub lists-by : (epoch number : ℕ) (r : Stepped) (x : Seen) → epoch ≡ epochIn rec → OffersTo st (channelIn rec) epoch (symbolsIn rec) r
-      → number ≡ getD (answerPaper (r .answer)) 0 0 → x ≡ seenBy (r .answer) (symbolsIn rec)
-      → Lists st rec (record { station = r .station; line = lineOf epoch number x })
-  lists-by epoch number r x e o n y =
-      let o = subst (λ (k : ℕ). OffersTo st (channelIn rec) k (symbolsIn rec) r) e o in
-      let z = y ∙ seen-is st (channelIn rec) (epochIn rec) (symbolsIn rec) r o in
+  pub lists-by : (c epoch number : ℕ) (s : List ℕ) (r : Stepped) (x : Seen) → c ≡ channelIn rec → epoch ≡ epochIn rec → s ≡ symbolsIn rec
+      → OffersTo st c epoch s r → number ≡ getD (answerPaper (r .answer)) 0 0 → x ≡ seenBy (r .answer) s
+      → Lists st rec (record { station = r .station; line = lineOf c epoch number x })
+  lists-by c epoch number s r x d e f o n y =
+      let o : OffersTo st (channelIn rec) (epochIn rec) (symbolsIn rec) r = rw (← d, ← e, ← f) o in
+      let z = y ∙ ap (seenBy (r .answer)) f ∙ seen-is st (channelIn rec) (epochIn rec) (symbolsIn rec) r o in
       record {
-        channel = refl;
+        channel = d;
         epoch = e;
         number = n ∙ number-is st (channelIn rec) (epochIn rec) (symbolsIn rec) r o;
         repaired = ap (λ (x : Seen). x .repaired) z;

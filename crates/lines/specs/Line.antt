@@ -4,28 +4,18 @@ use Prim.Native.Nat.{ℕ}
 use mathlib.Core.List.{List, [], _∷_}
 use mathlib.Core.Path.{_≡_}
 use lib.Dec.{eqb}
-use lib.ListN.{getD, take, drop}
 use Rattle.strings.specs.Pick.{pick, isOneOf}
-use Rattle.strings.specs.Number.{valueOf, numberOf}
+use Rattle.strings.specs.Number.{numberOf}
 use Rattle.strings.specs.Numbers.{firstOf}
 use Rattle.words.specs.Calls.{numberIn}
 use Rattle.relative.specs.Polarity.{firstSymbol}
 use Rattle.hearing.specs.Hears.{wholeOf, verdictIn}
+use Rattle.fields.specs.Sixteen.{channelIn, epochIn, symbolsIn}
 use Rattle.seen.specs.Seen.{bitIn}
 use Rattle.station.specs.declared.Station.{Station}
 use Rattle.station.specs.Station.{stationTests, stationAfter}
 use Rattle.lines.specs.declared.Line.{Line}
 use Rattle.lines.specs.declared.Listed.{Listed}
-
--- ---- "16-byte records (channel, epoch big-endian in four bytes, relative string)"
-abbrev pub channelIn : List ℕ → ℕ
-channelIn rec = getD rec 0 0
-
-abbrev pub epochIn : List ℕ → ℕ
-epochIn rec = valueOf (take 4 (drop 1 rec))
-
-abbrev pub symbolsIn : List ℕ → List ℕ
-symbolsIn rec = take 11 (drop 5 rec)
 
 -- ---- "number (0 if taken)": that of the first test that fits
 abbrev pub numberFor : Station → List ℕ → ℕ

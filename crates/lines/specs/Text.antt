@@ -7,11 +7,12 @@ use lib.Dec.{eqb, ltb}
 use lib.ListN.{length, take, drop}
 use lib.Seq.{sets}
 use Rattle.strings.specs.Pick.{pick}
+use Rattle.fields.specs.Sixteen.{channelIn, epochIn, symbolsIn}
 use Rattle.station.specs.declared.Station.{Station}
 use Rattle.station.specs.Station.{stationAfter}
 use Rattle.lines.specs.declared.Line.{Line}
 use Rattle.lines.specs.declared.Printed.{Printed}
-use Rattle.lines.specs.Line.{channelIn, epochIn, symbolsIn, lineFor}
+use Rattle.lines.specs.Line.{lineFor}
 
 -- ---- a number in decimal
 -- the digits of its tenth, where it is not below ten, and then its last digit; at most k digits

@@ -3,12 +3,10 @@
 use Prim.Native.Nat.{ℕ, _+_, _-_, _*_, _/_}
 use native.Mathlib.Numerals.{add-one}
 use native.Mathlib.Omega.{arith}
-use mathlib.Core.List.{List, [], _∷_}
+use mathlib.Core.List.{List, []}
 use mathlib.Core.Path.{_≡_, refl, sym, ap, ap₂, subst, _∙_}
 use lib.Bits.{bitXor}
-use lib.ListN.{length, getD, take, drop}
-use lib.Seq.{drop-cons}
-use Rattle.strings.specs.Number.{valueOf}
+use lib.ListN.{length, take, drop}
 use Rattle.book.specs.Book.{inSlot}
 use Rattle.channel.specs.Offers.{answerPaper}
 use Rattle.station.specs.declared.Station.{Station}
@@ -17,17 +15,8 @@ use Rattle.station.specs.Station.{freshStation, OffersTo}
 use Rattle.station.specs.History.{Runs, fresh, offering, stationOf}
 use Rattle.station.proofs.Demands.{runs-is}
 use Rattle.station.proofs.Reorder.{offer-said}
-use Rattle.measured.specs.Whole.{channelIn, epochIn, symbolsIn, callsIn, byteOf, sumOf, SumsUp}
-
--- ---- a record's epoch, from its four bytes
-module _ (st : Station) (rec : List ℕ) (whole : length rec ≡ 16) where
-  epoch-is : valueOf (getD rec 1 0 ∷ getD rec 2 0 ∷ getD rec 3 0 ∷ getD rec 4 0 ∷ []) ≡ epochIn rec
-  epoch-is =
-      rw (drop-cons rec 1 0 (omega (arith, whole)), drop-cons rec 2 0 (omega (arith, whole)), drop-cons rec 3 0 (omega (arith, whole)), drop-cons rec 4 0 (omega (arith, whole)))
-
-  pub offered-at : (epoch : ℕ) (r : Stepped) → epoch ≡ valueOf (getD rec 1 0 ∷ getD rec 2 0 ∷ getD rec 3 0 ∷ getD rec 4 0 ∷ [])
-      → OffersTo st (channelIn rec) epoch (symbolsIn rec) r → OffersTo st (channelIn rec) (epochIn rec) (symbolsIn rec) r
-  offered-at epoch r e o = subst (λ (k : ℕ). OffersTo st (channelIn rec) k (symbolsIn rec) r) (e ∙ epoch-is) o
+use Rattle.fields.specs.Sixteen.{channelIn, epochIn, symbolsIn}
+use Rattle.measured.specs.Whole.{callsIn, byteOf, sumOf, SumsUp}
 
 -- ---- the first i records are offered
 pub record SoFar (input : List ℕ) (st : Station) (sum i : ℕ) : Type 0 where
@@ -40,6 +29,10 @@ sixteen input i = take (i * 16 + 16 - i * 16) (drop (i * 16) input)
 
 abbrev OfferedOf : Station → List ℕ → Stepped → Type 0
 OfferedOf st rec r = OffersTo st (channelIn rec) (epochIn rec) (symbolsIn rec) r
+
+pub offered-of : {st : Station} {c d epoch time : ℕ} {s t : List ℕ} {r : Stepped} → c ≡ d → epoch ≡ time → s ≡ t → OffersTo st c epoch s r
+    → OffersTo st d time t r
+offered-of e f g o = rw (← e, ← f, ← g) o
 
 pub none-yet : (input : List ℕ) (st : Station) → st ≡ freshStation → SoFar input st 0 0
 unfolding callsIn sumOf

@@ -7,19 +7,9 @@ use lib.Bits.{bitXor}
 use lib.Dec.{eqb}
 use lib.ListN.{length, getD, take, drop}
 use Rattle.strings.specs.Pick.{pick}
-use Rattle.strings.specs.Number.{valueOf}
 use Rattle.book.specs.Book.{inSlot}
+use Rattle.fields.specs.Sixteen.{channelIn, epochIn, symbolsIn}
 use Rattle.station.specs.History.{Call, Offer, saidAfter, stationOf}
-
--- ---- a record of sixteen bytes: channel, epoch, the highest byte first, and a string in relative form
-abbrev pub channelIn : List ℕ → ℕ
-channelIn rec = getD rec 0 0
-
-abbrev pub epochIn : List ℕ → ℕ
-epochIn rec = valueOf (take 4 (drop 1 rec))
-
-abbrev pub symbolsIn : List ℕ → List ℕ
-symbolsIn rec = take 11 (drop 5 rec)
 
 -- ---- record k of an input, counted from 0, as a call; and the first k of them, the latest first
 abbrev pub callAt : List ℕ → ℕ → Call

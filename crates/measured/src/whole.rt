@@ -1,16 +1,17 @@
 // A station that lives in the call: made fresh, offered all records of an input, then asked.
 use channel::Answer;
+use fields::channel_in;
+use fields::epoch_in;
+use fields::symbols_in;
 use station::Station;
 use station::Stepped;
-use strings::wide;
 ghost use mathlib.Core.Path.{_≡_};
-ghost use mathlib.Core.List.{[], _∷_};
 ghost use lib.ListN.{length};
-ghost use Rattle.strings.specs.Number.{valueOf};
 ghost use Rattle.book.specs.Book.{inSlot};
 ghost use Rattle.channel.specs.Offers.{answerPaper};
+ghost use Rattle.fields.specs.Sixteen.{channelIn, epochIn, symbolsIn};
 ghost use Rattle.station.specs.Station.{OffersTo};
-ghost use Rattle.measured.specs.Whole.{channelIn, epochIn, symbolsIn, byteOf, SumsUp};
+ghost use Rattle.measured.specs.Whole.{byteOf, SumsUp};
 
 // Offers the records of an input, sixteen bytes each, to a fresh station, and adds up what they are
 // told and a byte of its book.
@@ -34,15 +35,7 @@ fn offer_record(st: Station, rec: &[u8]) -> Stepped
     requires { ⌜ length (now rec) ≡ 16 ⌝ }
     ensures { λ r. ⌜ OffersTo st (channelIn (now (rec .entry))) (epochIn (now (rec .entry))) (symbolsIn (now (rec .entry))) r ⌝ }
 {
-    let epoch = four(rec[1], rec[2], rec[3], rec[4]);
-    station::offer(st, rec[0], epoch, &rec[5..16])
-}
-
-// Four bytes as one number, the first highest.
-fn four(a: u8, b: u8, c: u8, d: u8) -> u32
-    ensures { λ r. ⌜ r ≡ valueOf (a ∷ b ∷ c ∷ d ∷ []) ⌝ }
-{
-    wide(a) * 16777216 + wide(b) * 65536 + wide(c) * 256 + wide(d)
+    station::offer(st, channel_in(rec), epoch_in(rec), symbols_in(rec))
 }
 
 fn byte_told(a: Answer) -> u8

@@ -2,9 +2,10 @@
 use crate::answers::say_bad;
 use crate::answers::say_ok;
 use crate::line::Text;
-use crate::numbers::four;
 use crate::station_answers::say_emptied;
 use crate::station_answers::say_offered;
+use fields::channel_in;
+use fields::epoch_in;
 use station::Station;
 ghost use Prim.Native.Nat.{_≤_};
 
@@ -31,8 +32,9 @@ pub(crate) fn offer_call(payload: &[u8], st: Station, text: &mut Text) -> Answer
     if payload.len() < 5 {
         return bad_call(6, st, text);
     }
-    let epoch = four(payload, 1) as u32;
-    let stepped = station::offer(st, payload[0], epoch, &payload[5..]);
+    let channel = channel_in(payload);
+    let epoch = epoch_in(payload);
+    let stepped = station::offer(st, channel, epoch, &payload[5..]);
     let next = stepped.station;
     let answer = stepped.answer;
     Answered {
