@@ -1,0 +1,9 @@
+pub mod Answers
+pub mod Tested
+pub mod Whole
+pub mod Steps
+pub mod Writing
+pub mod EndToEnd
+pub mod OnceOnly
+pub mod Turns
+pub mod Laws
