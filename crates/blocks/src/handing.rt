@@ -1,0 +1,41 @@
+// A whole block, done on a station.
+use crate::Ended;
+use crate::Handed;
+use crate::Told;
+use crate::taking::take_field;
+use station::Station;
+ghost use mathlib.Core.Path.{_≡_};
+ghost use Rattle.blocks.specs.Handing.{endedBy, HandsOver};
+
+// Does the fields of a block in the order written, up to its end or to the first that is refused.
+pub fn hand_over(st: Station, block: &[u8]) -> Handed
+    ensures { λ r. ⌜ HandsOver st (now (block .entry)) r ⌝ }
+{
+    let mut next = st;
+    let mut at = 0;
+    loop {
+        let taken = take_field(next, block, at);
+        next = taken.station;
+        if taken.after == at {
+            let told = taken.told;
+            return Handed {
+                station: next,
+                ended: ended_by(told),
+            };
+        }
+        at = taken.after;
+    }
+}
+
+// Where the reading does not move on, the block is at its end or the field is refused.
+fn ended_by(told: Told) -> Ended
+    ensures { λ r. ⌜ r ≡ endedBy told ⌝ }
+{
+    match told {
+        Told::End => Ended::Whole,
+        Told::Offered(_) => Ended::Whole,
+        Told::Emptied(_) => Ended::Whole,
+        Told::Remark => Ended::Whole,
+        Told::Refused(why, place) => Ended::Refused(why, place),
+    }
+}
