@@ -1,2 +1,5 @@
 pub mod Found
 pub mod Steps
+pub mod Along
+pub mod Histories
+pub mod Laws

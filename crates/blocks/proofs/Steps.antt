@@ -109,6 +109,7 @@ module _ (block : List ℕ) (at : ℕ) (e : isGood (drop at block) ≡ false) wh
 
 -- ---- a field that was taken moves on, where it is good
 pub record Moves (block : List ℕ) (at after : ℕ) : Type 0 where
+  pub good : isGood (drop at block) ≡ true
   pub forward : at < after
   pub within : after ≤ length block
   pub calls : from block at ≡ callsAt block at ++ from block after
@@ -116,6 +117,7 @@ pub record Moves (block : List ℕ) (at after : ℕ) : Type 0 where
 
 -- or the block is done
 pub record Stops (block : List ℕ) (at : ℕ) (told : Told) : Type 0 where
+  pub refused : isGood (drop at block) ≡ false
   pub calls : from block at ≡ []
   pub none : callsAt block at ≡ []
   pub end : endedPaper (endedBy told) ≡ endFrom block at
@@ -128,6 +130,7 @@ module _ {st : Station} {block : List ℕ} {at : ℕ} {r : Taken} (t : Takes st 
       by true e =
           let s : at + sizeIn (drop at block) ≡ r .after = sym (t .next) in
           record {
+            good = e;
             forward = omega (arith, falls block at e .0, s);
             within = omega (arith, falls block at e .1, s);
             calls = from-good block at e ∙ ap₂ (λ (cs : List Call) (k : ℕ). cs ++ from block k) (sym (calls-where block at e)) s;
@@ -142,6 +145,7 @@ module _ {st : Station} {block : List ℕ} {at : ℕ} {r : Taken} (t : Takes st 
       by true e = absurd (omega (arith, falls block at e .0, t .next, h))
       by false e =
           record {
+            refused = e;
             calls = from-none block at e;
             none = none-where block at e;
             end = ended block at e st (r .told) (t .answer) ∙ sym (end-none block at e);

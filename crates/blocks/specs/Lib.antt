@@ -1,2 +1,5 @@
 pub mod Taking
 pub mod Handing
+pub mod Along
+pub mod Histories
+pub mod Laws
