@@ -1,23 +1,28 @@
 -- What holds of every block that is handed to a station (the statements stand in `specs/Laws.antt`).
 -- Assumes nothing.
 use mathlib.Core.Path.{_≡_, refl, sym, ap, ap₂, subst, _∙_}
-use mathlib.Core.Bool.{Bool, true, false}
+use mathlib.Core.Bool.{Bool, true, false, true≢false}
 use mathlib.Core.List.{List, [], _∷_, _++_, append-nil}
 use mathlib.Core.Logic.{_↔_}
 use Prim.Native.Nat.{ℕ, _+_, _≤_, _<_}
 use native.Mathlib.Omega.{arith}
 use lib.Dec.{leb, ltb}
-use lib.ListN.{length, getD, take, drop, length-append, List·getD-append}
+use lib.ListN.{length, getD, take, drop, length-append, length-drop, List·getD-append}
+use lib.Seq.{take-append-le, drop-append-le}
 use borrow.Author.Tests.{le-leb, lt-leb, leb-true, leb-false, le-ltb}
 use Rattle.strings.specs.Pick.{pick}
-use Rattle.strings.specs.Numbers.{firstOf, answerOf, leftBy, Exactly}
+use Rattle.strings.specs.Number.{valueOf}
+use Rattle.strings.specs.Numbers.{testAt, firstOf, answerOf, leftBy, Exactly}
 use Rattle.strings.proofs.Answer.{written-same, exactly as by-tests}
 use Rattle.fields.specs.declared.Why.{Why}
 use Rattle.fields.specs.declared.Why.the-variants.{Tag, Length, Cut}
-use Rattle.fields.specs.Fields.{tagIn, lengthIn, testsIn, isGood, sizeIn, whyNumber}
-use Rattle.fields.specs.Block.{Call, callIn, callsIn, endIn}
+use Rattle.fields.specs.Fields.{tagIn, lengthIn, isUnknown, isWrong, isCut, testsIn, isGood, whyNumber}
+use Rattle.fields.specs.Block.{Call, callIn, callsOf, callsIn, endIn}
 use Rattle.fields.specs.Written.{Item, blockOf, callsAmong, AllFit}
-use Rattle.fields.proofs.Whole.{size-none}
+use Rattle.fields.specs.Laws.{onward}
+use Rattle.fields.proofs.Whole.{good-parts, size-none}
+use Rattle.fields.proofs.Tested.{refused-never}
+use Rattle.fields.proofs.Steps.{fields-none}
 use Rattle.fields.proofs.Laws.{laws as fields-laws}
 use Rattle.channel.proofs.Answers.{answer-same}
 use Rattle.station.specs.declared.Station.{Station}
@@ -33,8 +38,8 @@ use Rattle.blocks.specs.Handing.{endedPaper, HandsOver}
 use Rattle.blocks.specs.Along.{Along, Passed, AsCalls}
 use Rattle.blocks.specs.Laws.{Laws}
 use Rattle.blocks.proofs.Found.{no-number, none-where}
-use Rattle.blocks.proofs.Steps.{after-append, from-none}
-use Rattle.blocks.proofs.Along.{taken, takes, as-calls, passes}
+use Rattle.blocks.proofs.Steps.{after-append, end-none}
+use Rattle.blocks.proofs.Along.{taken, takes, says-call, as-calls, passes}
 
 -- ---- the numbers determine what is told
 why-of : ℕ → Why
@@ -137,3 +142,110 @@ refused st block at r t e = (
   t .station ∙ ap (afterCalls st) (none-where block at e),
   t .next ∙ ap (λ (k : ℕ). at + k) (size-none (drop at block) e) ∙ omega arith,
 )
+
+-- the end is told at the end
+never-0 : (rest : List ℕ) → isGood rest ≡ true → tagIn rest ≡ 0 → ⊥
+never-0 rest e z = true≢false (ap isUnknown (sym z) ∙ good-parts rest e .known)
+
+module _ (st : Station) (block : List ℕ) (at : ℕ) (r : Taken) (t : Takes st block at r) where
+  abbrev rest : List ℕ
+  rest = drop at block
+
+  not-before : r .told ≡ End → at < length block → ⊥
+  not-before e h = by (isGood rest) refl
+    where
+      by : (b : Bool) → isGood rest ≡ b → ⊥
+      by true g = never-0 rest g (sym (ap second (ap toldPaper (sym e) ∙ t .answer ∙ says-call st block at g)))
+      by false g =
+          refused-never at rest (tagIn rest ∷ answerAmong st (callIn rest)) (0 ∷ []) g (sym (says-before st block at h) ∙ sym (t .answer) ∙ ap toldPaper e)
+
+  past-end : length block ≤ at → r .told ≡ End
+  unfolding fieldSays
+  past-end h = told-same (r .told) End (t .answer ∙ rw (le-leb (length block) at h))
+
+  ends : (r .told ≡ End) ↔ (length block ≤ at)
+  ends = (by (leb (length block) at) refl, past-end)
+    where
+      by : (b : Bool) → leb (length block) at ≡ b → r .told ≡ End → length block ≤ at
+      by true p e = leb-true (length block) at p
+      by false p e = absurd (not-before e (leb-false (length block) at p))
+
+-- ---- field by field as the whole block
+same-station : (st : Station) (block : List ℕ) (answers : List (List ℕ)) (last : Station) (ended : Ended) (r : Handed)
+    → Along block st 0 answers last ended → HandsOver st block r → (last ≡ r .station) × (ended ≡ r .ended)
+same-station st block answers last ended r along o =
+    let a = as-calls st block answers last ended along in
+    (a .same-station ∙ sym (o .station), ended-same ended (r .ended) (a .end ∙ sym (o .end)))
+
+-- ---- blocks that are written, and blocks end to end
+written : (st : Station) (items : List Item) → AllFit items → (r : Handed) → HandsOver st (blockOf items) r
+    → (r .station ≡ afterCalls st (callsAmong items)) × (r .ended ≡ Whole)
+written st items fit r o =
+    let w = fields-laws .reads items fit in
+    (o .station ∙ ap (afterCalls st) (w .calls), ended-same (r .ended) Whole (o .end ∙ w .whole))
+
+follow : (st : Station) (a b : List ℕ) (r q s : Handed) → HandsOver st a r → r .ended ≡ Whole → HandsOver (r .station) b q → HandsOver st (a ++ b) s
+    → s .station ≡ q .station
+follow st a b r q s o e p w =
+    let f = fields-laws .follow a b (sym (o .end) ∙ ap endedPaper e) in
+    w .station ∙ ap (afterCalls st) (f .calls) ∙ after-append st (callsIn a) (callsIn b) ∙ ap (λ (x : Station). afterCalls x (callsIn b)) (sym (o .station)) ∙ sym (p .station)
+
+-- ---- what is refused
+none-in : (rest : List ℕ) → isGood rest ≡ false → callsIn rest ≡ []
+unfolding callsOf
+none-in rest e = ap callsOf (fields-none rest e)
+
+kept : (st : Station) (before rest : List ℕ) (r : Handed) → endIn before ≡ 0 ∷ [] → isGood rest ≡ false → HandsOver st (before ++ rest) r
+    → r .station ≡ afterCalls st (callsIn before)
+kept st before rest r w e o =
+    o .station ∙ ap (afterCalls st) (fields-laws .follow before rest w .calls ∙ ap (λ (l : List Call). callsIn before ++ l) (none-in rest e) ∙ append-nil (callsIn before))
+
+-- a field that is refused though it is whole, with any bytes after it
+module _ (field : List ℕ) (e : isGood field ≡ false) (h : 3 + lengthIn field ≤ length field) where
+  module _ (x : List ℕ) where
+    tag-then : tagIn (field ++ x) ≡ tagIn field
+    tag-then = List·getD-append field x 0 0 (omega arith)
+
+    length-then : lengthIn (field ++ x) ≡ lengthIn field
+    length-then =
+        ap (λ (l : List ℕ). valueOf (take 2 l)) (drop-append-le 1 field x (omega arith))
+        ∙ ap valueOf (take-append-le 2 (drop 1 field) x (omega (arith, length-drop 1 field)))
+
+    whole-then : isCut (lengthIn (field ++ x)) (length (field ++ x)) ≡ false
+    whole-then = le-ltb (length (field ++ x)) (3 + lengthIn (field ++ x)) (omega (arith, length-then, length-append field x))
+
+    refused-then : isGood (field ++ x) ≡ false
+    unfolding isGood
+    refused-then =
+        rw (whole-then, tag-then, length-then) (rw (le-ltb (length field) (3 + lengthIn field) h) at e)
+
+    end-then : endIn (field ++ x) ≡ answerOf (testAt 43 0 false ∷ testAt 41 0 (isUnknown (tagIn field)) ∷ testAt 42 0 (isWrong (tagIn field) (lengthIn field)) ∷ []) []
+    end-then =
+        end-none (field ++ x) 0 refused-then
+        ∙ rw (lt-leb (length (field ++ x)) 0 (omega (arith, length-append field x)), whole-then, tag-then, length-then)
+
+no-effect : (st : Station) (before field x y : List ℕ) (r q : Handed) → endIn before ≡ 0 ∷ [] → isGood field ≡ false → 3 + lengthIn field ≤ length field
+    → HandsOver st (before ++ (field ++ x)) r → HandsOver st (before ++ (field ++ y)) q → r ≡ q
+no-effect st before field x y r q w e h o p =
+    let a = kept st before (field ++ x) r w (refused-then field e h x) o in
+    let b = kept st before (field ++ y) q w (refused-then field e h y) p in
+    let c = o .end ∙ fields-laws .follow before (field ++ x) w .end ∙ ap (onward (length before)) (end-then field e h x) in
+    let d = p .end ∙ fields-laws .follow before (field ++ y) w .end ∙ ap (onward (length before)) (end-then field e h y) in
+    ap₂ (λ (x : Station) (y : Ended). record { station = x; ended = y }) (a ∙ sym b) (ended-same (r .ended) (q .ended) (c ∙ sym d))
+
+pub laws : Laws
+laws =
+    record {
+      field-answers = field-answers;
+      block-answers = block-answers;
+      ends = ends;
+      exactly = exactly;
+      refused = refused;
+      passes = passes;
+      as-calls = as-calls;
+      same-station = same-station;
+      written = written;
+      follow = follow;
+      keeps = λ st before rest r q w e o p. kept st before rest r w e o ∙ sym (p .station);
+      no-effect = no-effect;
+    }
