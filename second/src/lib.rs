@@ -4,6 +4,8 @@
 //! the receiver card's own library, answer by answer.
 
 pub mod alter;
+pub mod block;
+pub mod framing;
 pub mod hamming;
 pub mod known;
 pub mod listing;

@@ -11,10 +11,12 @@ const USAGE: &str = "usage:
   second make words SEED           write an input for trial: requests 1 to 5 alone
   second make tallies              write an input for trial: tallies past 65,535
   second make listing SEED COUNT   write COUNT records for the listing
+  second make block SEED COUNT     write a block of COUNT fields and one that is refused
   second make sample               write a few records for the listing
   second make sample trial         write the same records as an input for trial
   second answer trial              read an input for trial, write the expected output
   second answer listing            read records, write the expected lines
+  second answer block              read one block, write the expected lines
 SEED and COUNT are decimal numbers from 0 to 18446744073709551615.";
 
 const WRONG_ARGUMENTS: u8 = 2;
@@ -25,9 +27,11 @@ enum Command {
     MakeTallies,
     MakeSampleTrial,
     MakeListing { seed: u64, count: u64 },
+    MakeBlock { seed: u64, count: u64 },
     MakeSampleListing,
     AnswerTrial,
     AnswerListing,
+    AnswerBlock,
 }
 
 fn main() -> ExitCode {
@@ -60,9 +64,14 @@ fn parse(arguments: &[OsString]) -> Option<Command> {
             seed: seed.parse().ok()?,
             count: count.parse().ok()?,
         },
+        ["make", "block", seed, count] => Command::MakeBlock {
+            seed: seed.parse().ok()?,
+            count: count.parse().ok()?,
+        },
         ["make", "sample"] => Command::MakeSampleListing,
         ["answer", "trial"] => Command::AnswerTrial,
         ["answer", "listing"] => Command::AnswerListing,
+        ["answer", "block"] => Command::AnswerBlock,
         _ => return None,
     };
     Some(command)
@@ -76,12 +85,16 @@ fn run(command: Command) -> io::Result<()> {
         Command::MakeTallies => output.write_all(&make::tallies_input())?,
         Command::MakeSampleTrial => output.write_all(&make::sample_for_trial())?,
         Command::MakeListing { seed, count } => make::write_listing(seed, count, &mut output)?,
+        Command::MakeBlock { seed, count } => output.write_all(&make::block(seed, count))?,
         Command::MakeSampleListing => output.write_all(&make::sample_for_listing())?,
         Command::AnswerTrial => {
             output.write_all(trial::answer_input(&whole_input()?).as_bytes())?
         }
         Command::AnswerListing => {
             listing::answer_stream(BufReader::new(io::stdin().lock()), &mut output)?
+        }
+        Command::AnswerBlock => {
+            output.write_all(trial::answer_block(&whole_input()?).as_bytes())?
         }
     }
     output.flush()

@@ -1,7 +1,9 @@
-//! Makes inputs: requests for `trial` and records for the listing, from a seed.
+//! Makes inputs: requests for `trial`, records for the listing and a long block, from a
+//! seed.
 
 mod damage;
 mod feed;
+mod field_feed;
 mod hearing;
 mod sample;
 mod satellite;
@@ -36,6 +38,7 @@ pub fn trial_input(seed: u64) -> Vec<u8> {
             damage::add_all,
             station::polarity::add_all,
             station::health_flags::add_all,
+            station::blocks::add_all,
         ],
     )
 }
@@ -65,6 +68,11 @@ pub fn write_listing(seed: u64, count: u64, output: &mut impl Write) -> io::Resu
         output.write_all(&record.to_bytes())?;
     }
     Ok(())
+}
+
+/// So many fields, and one that is refused.
+pub fn block(seed: u64, count: u64) -> Vec<u8> {
+    field_feed::long_block(seed, count)
 }
 
 /// Tallies past their limit: some 260,000 offers, without a seed.

@@ -22,6 +22,11 @@ pub enum Refusal {
     Room,
     Nothing,
     Slot,
+    /// Names a block's field by the place of its tag byte, counted from 0.
+    Field {
+        trouble: FieldTrouble,
+        place: usize,
+    },
 }
 
 /// What the sums of a damaged string say: three numbers in the position of 3, which
@@ -34,6 +39,27 @@ pub enum Damage {
     WholeMissing,
     /// "Place above 85": C = 1, two or more sums set, S+8-K above 85.
     PlaceAbove85,
+}
+
+/// Why a field of a block is refused: "tested in the order 43, 41, 42".
+#[derive(Clone, Copy, Debug, PartialEq, Eq)]
+pub enum FieldTrouble {
+    /// "Unknown tag."
+    UnknownTag,
+    /// "Wrong length for the tag."
+    WrongLength,
+    /// "Block ends inside a field."
+    EndsInside,
+}
+
+impl FieldTrouble {
+    fn number(self) -> u8 {
+        match self {
+            FieldTrouble::UnknownTag => 41,
+            FieldTrouble::WrongLength => 42,
+            FieldTrouble::EndsInside => 43,
+        }
+    }
 }
 
 impl Refusal {
@@ -55,16 +81,18 @@ impl Refusal {
             Refusal::Room => 12,
             Refusal::Nothing => 13,
             Refusal::Slot => 14,
+            Refusal::Field { trouble, .. } => trouble.number(),
         }
     }
 }
 
-/// "A refusal answers its number, with the place for RANGE, and nothing more."
+/// "A refusal answers its number, with the place for RANGE, and nothing more"; a block's
+/// "tells the byte place of the field".
 impl fmt::Display for Refusal {
     fn fmt(&self, out: &mut fmt::Formatter) -> fmt::Result {
         write!(out, "no {}", self.number())?;
         match self {
-            Refusal::Range { place } => write!(out, " {place}"),
+            Refusal::Range { place } | Refusal::Field { place, .. } => write!(out, " {place}"),
             _ => Ok(()),
         }
     }

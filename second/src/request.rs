@@ -1,9 +1,9 @@
 //! Requests to `trial`: one byte op, two bytes big-endian length, then that many
 //! bytes, one request after another.
 
+pub use crate::framing::append;
+use crate::framing::split_first;
 use crate::words::kinds::{Kind, KINDS};
-
-const HEADER: usize = 3;
 
 /// What a request asks for, by its op.
 pub const FROM_RELATIVE: u8 = 1;
@@ -18,6 +18,7 @@ pub const ENTRY: u8 = 9;
 pub const TALLIES: u8 = 10;
 pub const HEALTH: u8 = 11;
 pub const FRESH: u8 = 12;
+pub const BLOCK: u8 = 13;
 pub const ENTRY_WORDS: u8 = 23;
 
 #[derive(Clone, Copy, Debug, PartialEq, Eq)]
@@ -43,6 +44,14 @@ pub fn pieces(input: &[u8]) -> Pieces<'_> {
     Pieces { rest: input }
 }
 
+/// The requests of an input, without one that is cut short.
+pub fn whole_requests(input: &[u8]) -> impl Iterator<Item = Request<'_>> {
+    pieces(input).filter_map(|piece| match piece {
+        Piece::Whole(request) => Some(request),
+        Piece::Short(_) => None,
+    })
+}
+
 impl<'a> Iterator for Pieces<'a> {
     type Item = Piece<'a>;
 
@@ -50,31 +59,14 @@ impl<'a> Iterator for Pieces<'a> {
         if self.rest.is_empty() {
             return None;
         }
-        let Some((request, rest)) = split_request(self.rest) else {
+        let Some((op, payload, rest)) = split_first(self.rest) else {
             let count = self.rest.len();
             self.rest = &[];
             return Some(Piece::Short(count));
         };
         self.rest = rest;
-        Some(Piece::Whole(request))
+        Some(Piece::Whole(Request { op, payload }))
     }
-}
-
-/// The first request and the bytes after it; none where the input ends within it.
-fn split_request(input: &[u8]) -> Option<(Request<'_>, &[u8])> {
-    let header = input.get(..HEADER)?;
-    let end = HEADER + usize::from(u16::from_be_bytes([header[1], header[2]]));
-    let payload = input.get(HEADER..end)?;
-    let op = header[0];
-    Some((Request { op, payload }, &input[end..]))
-}
-
-/// Writes a request at the end of an input.
-pub fn append(input: &mut Vec<u8>, op: u8, payload: &[u8]) {
-    let length = u16::try_from(payload.len()).expect("a payload has at most 65,535 bytes");
-    input.push(op);
-    input.extend(length.to_be_bytes());
-    input.extend(payload);
 }
 
 /// "Kinds: 1 to 5 are strings 1 to 5, 6 even, 7 odd, 8 string 14 of frame 5."

@@ -1,5 +1,7 @@
-//! Answers to `trial` requests: one line for each, all to one station.
+//! Answers to `trial` requests: one line for each, several for a block, all to one
+//! station.
 
+mod block;
 mod station;
 mod strings;
 mod words;
@@ -13,13 +15,21 @@ type Answer = Result<String, Refusal>;
 
 /// The lines for a whole input. The station is fresh at its start.
 pub fn answer_input(input: &[u8]) -> String {
-    let mut station = Station::default();
-    request::pieces(input)
-        .map(|piece| answer_piece(&mut station, piece) + "\n")
-        .collect()
+    answers(input).map(|(_, answer)| answer + "\n").collect()
 }
 
-/// The line for one piece, without its end.
+/// Each piece with its answer, without the last line feed.
+pub fn answers(input: &[u8]) -> impl Iterator<Item = (Piece<'_>, String)> {
+    let mut station = Station::default();
+    request::pieces(input).map(move |piece| (piece, answer_piece(&mut station, piece)))
+}
+
+/// The lines for one block, of any length, that is handed to a fresh station.
+pub fn answer_block(block: &[u8]) -> String {
+    block::block(&mut Station::default(), block) + "\n"
+}
+
+/// The answer to one piece, without the last line feed.
 pub fn answer_piece(station: &mut Station, piece: Piece) -> String {
     match piece {
         Piece::Whole(request) => answer_request(station, request),
@@ -29,10 +39,13 @@ pub fn answer_piece(station: &mut Station, piece: Piece) -> String {
 
 fn answer_request(station: &mut Station, request: Request) -> String {
     match call(station, request) {
-        Some(Ok(line)) => line,
-        Some(Err(refusal)) => refusal.to_string(),
+        Some(answer) => line_of(answer),
         None => format!("bad {}", request.op),
     }
+}
+
+fn line_of(answer: Answer) -> String {
+    answer.unwrap_or_else(|refusal| refusal.to_string())
 }
 
 /// None where there is no such op, or no such payload for it.
@@ -51,6 +64,7 @@ fn call(station: &mut Station, request: Request) -> Option<Answer> {
         request::TALLIES => station::tallies(station, payload),
         request::HEALTH => station::health(station, payload),
         request::FRESH => station::fresh(station, payload),
+        request::BLOCK => Some(Ok(block::block(station, payload))),
         request::ENTRY_WORDS => station::entry_words(station, payload),
         _ => None,
     }

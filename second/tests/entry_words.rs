@@ -3,7 +3,9 @@
 use second::alter::{with_bit_inverted, with_m, with_number};
 use second::known::received_frame;
 use second::relative::{from_relative, to_relative};
-use second::request::{append, pieces, Piece, ENTRY, ENTRY_WORDS, FRESH, OFFER, READ, RESET};
+use second::request::{
+    append, whole_requests, Piece, ENTRY, ENTRY_WORDS, FRESH, OFFER, READ, RESET,
+};
 use second::station::book::Entry;
 use second::string::NavString;
 use second::{make, trial};
@@ -246,17 +248,13 @@ fn the_words_stay_after_a_reset_and_go_with_the_station() {
 /// The made input's requests for words, by their payloads, and their lines.
 fn made_requests() -> Vec<(Vec<u8>, String)> {
     let input = make::trial_input(20260);
-    let lines = trial::answer_input(&input);
-    let for_words = |(piece, line): (Piece, &str)| match piece {
+    let for_words = |(piece, line): (Piece, String)| match piece {
         Piece::Whole(request) if request.op == ENTRY_WORDS => {
-            Some((request.payload.to_vec(), String::from(line)))
+            Some((request.payload.to_vec(), line))
         }
         _ => None,
     };
-    pieces(&input)
-        .zip(lines.lines())
-        .filter_map(for_words)
-        .collect()
+    trial::answers(&input).filter_map(for_words).collect()
 }
 
 fn made_words() -> Vec<Vec<i64>> {
@@ -320,11 +318,7 @@ fn the_made_input_has_the_ends_of_every_word() {
 #[test]
 fn the_made_input_has_minus_zero_in_every_signed_word() {
     let input = make::trial_input(20260);
-    let whole = pieces(&input).filter_map(|piece| match piece {
-        Piece::Whole(request) => Some(request),
-        Piece::Short(_) => None,
-    });
-    let strings: Vec<NavString> = whole
+    let strings: Vec<NavString> = whole_requests(&input)
         .skip_while(|request| request.op != ENTRY_WORDS)
         .filter(|request| request.op == OFFER)
         .filter_map(|request| NavString::from_bytes(&request.payload[5..]).ok())

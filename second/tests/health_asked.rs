@@ -4,7 +4,7 @@
 use std::collections::{HashMap, HashSet};
 
 use second::make;
-use second::request::{pieces, Piece, Request, FRESH, HEALTH, OFFER, RESET};
+use second::request::{pieces, Piece, Request, BLOCK, FRESH, HEALTH, OFFER, RESET};
 use second::station::reception::receive;
 use second::station::Station;
 use second::string::NavString;
@@ -36,7 +36,7 @@ struct Flags {
     top_bit_of_b: i64,
 }
 
-/// The last string of each channel and m that was taken.
+/// The last string of each channel and m that was taken. A block's are passed over.
 type Heard = HashMap<(u8, usize), NavString>;
 
 fn flags_of(words: &[i64]) -> Flags {
@@ -78,7 +78,7 @@ fn all_asked() -> HashSet<Asked> {
                 heard.insert((*channel, string.m()), string);
             }
             (RESET, [reset]) => heard.retain(|(channel, _), _| channel != reset),
-            (FRESH, []) => heard.clear(),
+            (FRESH, []) | (BLOCK, _) => heard.clear(),
             (HEALTH, [channel]) => {
                 found.insert(asked(&station, &heard, *channel, line));
             }

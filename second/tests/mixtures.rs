@@ -76,7 +76,7 @@ fn mixtures(input: &[u8]) -> HashSet<Mixture> {
     let mut found = HashSet::new();
     for piece in pieces(input) {
         let before = station.clone();
-        let answered = number_in(&trial::answer_piece(&mut station, piece));
+        let answer = trial::answer_piece(&mut station, piece);
         let Piece::Whole(request) = piece else {
             continue;
         };
@@ -91,7 +91,7 @@ fn mixtures(input: &[u8]) -> HashSet<Mixture> {
         found.insert(Mixture {
             op,
             cause,
-            answered,
+            answered: number_in(&answer),
             undamaged: number_in(&trial::answer_piece(&mut before.clone(), other)),
         });
     }

@@ -5,7 +5,7 @@
 use std::collections::HashSet;
 
 use second::listing::RECORD_BYTES;
-use second::request::{append, pieces, Piece, FROM_RELATIVE, OFFER};
+use second::request::{append, Piece, FROM_RELATIVE, OFFER};
 use second::{make, trial};
 
 /// The first symbol of a string in relative form; none where there is no string.
@@ -34,12 +34,10 @@ fn kind_of_line(line: &str, symbol: u8) -> String {
 
 /// What this op answers, each with the first symbol it was asked with.
 fn kinds_of_lines(input: &[u8], op: u8, start: usize) -> HashSet<(String, u8)> {
-    let lines = trial::answer_input(input);
-    pieces(input)
-        .zip(lines.lines())
+    trial::answers(input)
         .filter_map(|(piece, line)| {
             let symbol = first_symbol(piece, op, start)?;
-            Some((kind_of_line(line, symbol), symbol))
+            Some((kind_of_line(&line, symbol), symbol))
         })
         .collect()
 }

@@ -1,8 +1,8 @@
-//! The numbers of the paper's table, 31 to 33 in the position of 3, and SHAPE and
-//! IDLE where strings come in.
+//! The numbers of the paper's table, 31 to 33 in the position of 3, 41 to 43 for the
+//! fields of a block, and SHAPE and IDLE where strings come in.
 
 use second::known::{a, A};
-use second::refusal::{Damage, Refusal};
+use second::refusal::{Damage, FieldTrouble, Refusal};
 use second::relative::to_relative;
 use second::string::NavString;
 
@@ -25,16 +25,33 @@ fn numbers_are_those_of_the_table() {
         Refusal::Room,
         Refusal::Nothing,
         Refusal::Slot,
+        Refusal::Field {
+            trouble: FieldTrouble::UnknownTag,
+            place: 0,
+        },
+        Refusal::Field {
+            trouble: FieldTrouble::WrongLength,
+            place: 0,
+        },
+        Refusal::Field {
+            trouble: FieldTrouble::EndsInside,
+            place: 0,
+        },
     ];
     let numbers: Vec<u8> = in_order.iter().map(|refusal| refusal.number()).collect();
-    let expected = [1, 2, 31, 32, 33].into_iter().chain(4..=14);
+    let expected = [1, 2, 31, 32, 33].into_iter().chain(4..=14).chain(41..=43);
     assert_eq!(numbers, expected.collect::<Vec<u8>>());
 }
 
 #[test]
-fn only_range_names_a_place() {
+fn only_range_and_a_field_name_a_place() {
     assert_eq!(Refusal::Shape.to_string(), "no 2");
     assert_eq!(Refusal::Range { place: 69 }.to_string(), "no 10 69");
+    let refusal = Refusal::Field {
+        trouble: FieldTrouble::EndsInside,
+        place: 70_000,
+    };
+    assert_eq!(refusal.to_string(), "no 43 70000");
 }
 
 #[test]

@@ -3,8 +3,8 @@
 use second::known::{a, received_frame, A, B, B_DAMAGED, B_INVERTED, FLIPS_THAT_DAMAGE};
 use second::relative::to_relative;
 use second::request::{
-    append, pieces, values_to_bytes, Piece, CHECK, ENTRY, ENTRY_WORDS, FRESH, FROM_RELATIVE,
-    HEALTH, IMMEDIATE, OFFER, READ, RESET, TALLIES, TO_RELATIVE, WRITE,
+    append, values_to_bytes, whole_requests, Piece, BLOCK, CHECK, ENTRY, ENTRY_WORDS, FRESH,
+    FROM_RELATIVE, HEALTH, IMMEDIATE, OFFER, READ, RESET, TALLIES, TO_RELATIVE, WRITE,
 };
 use second::string::NavString;
 use second::{make, trial};
@@ -255,6 +255,57 @@ fn a_reset_and_a_fresh_station_print_ok() {
     );
 }
 
+/// B at this epoch, as a field of a block.
+fn field_of_b(channel: u8, epoch: u8) -> Vec<u8> {
+    let (_, payload) = offer_b(channel, epoch);
+    [&[1, 0, 16], &payload[..]].concat()
+}
+
+/// A remark, a call that is refused, a reset, and queries between the blocks.
+#[test]
+fn a_block_prints_the_lines_of_its_calls_and_how_it_ended() {
+    let remark = [3, 0, 2, 1, 0];
+    let [reset_of_0, reset_of_24] = [[2, 0, 1, 0], [2, 0, 1, 24]];
+    let first = [&field_of_b(0, 100)[..], &remark, &field_of_b(0, 99)].concat();
+    let next = [&reset_of_24[..], &field_of_b(24, 100), &reset_of_0].concat();
+    let requests = [
+        (BLOCK, first),
+        (TALLIES, vec![0]),
+        (BLOCK, next),
+        (TALLIES, vec![0]),
+        (BLOCK, vec![]),
+        (BLOCK, remark.to_vec()),
+    ];
+    let lines = [
+        "taken 1 0 1 0",
+        "no 7",
+        "end",
+        "ok 2 1 0 1",
+        "no 1",
+        "no 1",
+        "ok",
+        "end",
+        "ok 0 0 0 0",
+        "end",
+        "end",
+    ];
+    assert_eq!(answers(&requests), lines);
+}
+
+#[test]
+fn a_refused_field_prints_its_number_and_place_and_no_more() {
+    for (refused, line) in [
+        (&[4, 0, 0][..], "no 41 19"),
+        (&[2, 0, 2, 0, 0], "no 42 19"),
+        (&[4, 0xFF, 0xFF], "no 43 19"),
+    ] {
+        let block = [&field_of_b(0, 100), refused, &field_of_b(1, 100)].concat();
+        let requests = [(BLOCK, block), (TALLIES, vec![0]), (TALLIES, vec![1])];
+        let lines = ["taken 1 0 1 0", line, "ok 1 1 0 0", "ok 0 0 0 0"];
+        assert_eq!(answers(&requests), lines);
+    }
+}
+
 #[test]
 fn queries_of_nothing_and_nowhere() {
     for (op, which, line) in [
@@ -319,7 +370,8 @@ fn the_made_input_draws_every_kind_of_line() {
     for kind in [
         "ok 0 ", "ok 85 ", "no 1", "no 2", "no 31", "no 32", "no 33", "no 4", "no 5", "no 6",
         "no 7", "no 8", "no 9", "no 10 76", "no 11", "no 12", "no 13", "no 14", "taken 1 ",
-        "bad 0", "bad 4", "bad 5", "bad 6", "bad 12", "bad 23", "short 10",
+        "no 41 ", "no 42 ", "no 43 ", "end", "bad 0", "bad 4", "bad 5", "bad 6", "bad 12",
+        "bad 23", "short 10",
     ] {
         assert!(lines.lines().any(|line| line.starts_with(kind)), "{kind}");
     }
@@ -329,11 +381,10 @@ fn the_made_input_draws_every_kind_of_line() {
 #[test]
 fn the_made_input_has_each_cause_of_damage_in_each_call() {
     let input = make::trial_input(20260);
-    let lines = trial::answer_input(&input);
+    let answers: Vec<(Piece, String)> = trial::answers(&input).collect();
     let answered = |asked: u8, line: &str| {
-        let mut pairs = pieces(&input).zip(lines.lines());
-        pairs.any(|(piece, other)| match piece {
-            Piece::Whole(request) => request.op == asked && other == line,
+        answers.iter().any(|(piece, answer)| match piece {
+            Piece::Whole(request) => request.op == asked && answer == line,
             Piece::Short(_) => false,
         })
     };
@@ -342,27 +393,23 @@ fn the_made_input_has_each_cause_of_damage_in_each_call() {
             assert!(answered(op, line), "op {op}: {line}");
         }
     }
-    assert!(!lines.lines().any(|line| line == "no 3"));
+    let mut lines = answers.iter().flat_map(|(_, answer)| answer.lines());
+    assert!(lines.all(|line| line != "no 3"));
 }
 
 #[test]
 fn the_made_input_has_at_least_20_000_requests() {
-    let lines = trial::answer_input(&make::trial_input(3));
-    assert!(lines.lines().count() >= 20_000);
+    let input = make::trial_input(3);
+    assert!(whole_requests(&input).count() >= 20_000);
 }
 
 #[test]
 fn the_input_for_words_asks_no_station() {
     let input = make::words_input(3);
-    let ops: Vec<u8> = pieces(&input)
-        .filter_map(|piece| match piece {
-            Piece::Whole(request) => Some(request.op),
-            Piece::Short(_) => None,
-        })
-        .collect();
+    let ops: Vec<u8> = whole_requests(&input).map(|request| request.op).collect();
     assert!((FROM_RELATIVE..=WRITE).all(|op| ops.contains(&op)));
     assert!(!ops.iter().any(|op| (OFFER..=FRESH).contains(op)));
-    assert!(!ops.contains(&ENTRY_WORDS));
+    assert!(!ops.contains(&BLOCK) && !ops.contains(&ENTRY_WORDS));
 }
 
 #[test]

@@ -1,6 +1,6 @@
 //! The made input would show an exchange of any two words of a string.
 
-use second::request::{number_of, pieces, values_from_bytes, Piece, Request, READ, WRITE};
+use second::request::{number_of, values_from_bytes, Piece, Request, READ, WRITE};
 use second::words::kinds::KINDS;
 use second::{make, trial};
 
@@ -35,10 +35,8 @@ fn all_differ(words: &[i64]) -> bool {
 #[test]
 fn no_two_words_have_the_same_value() {
     let input = make::trial_input(20260);
-    let lines = trial::answer_input(&input);
-    let requests: Vec<(u8, u8, Vec<i64>)> = pieces(&input)
-        .zip(lines.lines())
-        .filter_map(|(piece, line)| granted(piece, line))
+    let requests: Vec<(u8, u8, Vec<i64>)> = trial::answers(&input)
+        .filter_map(|(piece, line)| granted(piece, &line))
         .collect();
     for kind in KINDS {
         for asked in [READ, WRITE] {

@@ -1,6 +1,7 @@
 //! Requests to the station.
 
 mod almanac;
+pub(super) mod blocks;
 pub(super) mod entry_words;
 mod frames;
 mod health;
@@ -17,11 +18,13 @@ use super::Input;
 use crate::listing::Record;
 use crate::request::{ENTRY, FRESH, HEALTH, IMMEDIATE, OFFER, RESET, TALLIES};
 use crate::station::book::SLOTS;
+use crate::station::frame::STRINGS_IN_A_FRAME;
 use crate::station::CHANNELS;
 use crate::string::NavString;
 
-/// The start of a frame where any will do.
+/// The start of a frame where any will do, and that of the next frame.
 const SOME_START: u32 = 1000;
+const NEXT_START: u32 = SOME_START + STRINGS_IN_A_FRAME as u32;
 
 pub(super) fn add_all(input: &mut Input) {
     refusals::add_all(input);

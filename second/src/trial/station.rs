@@ -1,7 +1,8 @@
 //! Requests 6 to 12 and 23: the station's calls.
 
 use super::{in_decimal, Answer};
-use crate::station::row::News;
+use crate::refusal::Refusal;
+use crate::station::row::{News, Taken};
 use crate::station::{Health, Station};
 
 /// Payload: channel, epoch in four bytes, then the string in relative form, of any
@@ -10,11 +11,15 @@ pub fn offer(station: &mut Station, payload: &[u8]) -> Option<Answer> {
     let (&[channel, e0, e1, e2, e3], symbols) = payload.split_first_chunk()?;
     let epoch = u32::from_be_bytes([e0, e1, e2, e3]);
     let answer = station.offer(usize::from(channel), epoch, symbols);
-    Some(answer.map(|taken| {
+    Some(answer_to_offer(answer))
+}
+
+pub fn answer_to_offer(answer: Result<Taken, Refusal>) -> Answer {
+    answer.map(|taken| {
         let bit = taken.verdict.repaired_bit();
         let (news, polarity) = (news_number(taken.news), taken.polarity.number());
         format!("taken {} {bit} {news} {polarity}", taken.m)
-    }))
+    })
 }
 
 fn news_number(news: News) -> u8 {
@@ -28,8 +33,11 @@ fn news_number(news: News) -> u8 {
 
 pub fn reset(station: &mut Station, payload: &[u8]) -> Option<Answer> {
     let channel = only_byte(payload)?;
-    let answer = station.reset(channel);
-    Some(answer.map(|()| String::from("ok")))
+    Some(answer_to_reset(station.reset(channel)))
+}
+
+pub fn answer_to_reset(answer: Result<(), Refusal>) -> Answer {
+    answer.map(|()| String::from("ok"))
 }
 
 /// The 26 words of strings 1 to 4.

@@ -1,6 +1,8 @@
-//! The station: frames, record, book, health, tallies, and the listing over it.
+//! The station: frames, record, book, health, tallies, blocks, and the listing over it.
 
+mod block;
 mod book;
+mod calls;
 mod exchange;
 mod frames;
 mod health;

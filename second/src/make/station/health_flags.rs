@@ -2,14 +2,11 @@
 //! give way to later ones.
 
 use super::super::Input;
-use super::SOME_START;
+use super::{NEXT_START, SOME_START};
 use crate::alter::{codes_out_of_range, with_bit_inverted, with_code};
 use crate::request::HEALTH;
-use crate::station::frame::STRINGS_IN_A_FRAME;
 use crate::string::NavString;
 use crate::words::kinds::{ALMANAC_C, B, L_OF_STRING_3, SATELLITE_TYPE, TK};
-
-const NEXT_START: u32 = SOME_START + STRINGS_IN_A_FRAME as u32;
 
 /// Two channels: the satellite is followed on one and the almanac comes from the other.
 const CHANNEL: u8 = 5;

@@ -2,14 +2,11 @@
 //! news comes in each of these ways.
 
 use super::super::Input;
-use super::SOME_START;
+use super::{NEXT_START, SOME_START};
 use crate::alter::{codes_out_of_range, with_code};
 use crate::relative;
-use crate::station::frame::STRINGS_IN_A_FRAME;
 use crate::string::NavString;
 use crate::words::kinds::TK;
-
-const NEXT_START: u32 = SOME_START + STRINGS_IN_A_FRAME as u32;
 
 /// The first symbol is 1 where inverted; these bits of the plain string are wrong.
 #[derive(Clone, Copy)]

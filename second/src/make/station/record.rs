@@ -1,7 +1,7 @@
 //! How the immediate record comes and stays.
 
 use super::super::Input;
-use super::SOME_START;
+use super::{NEXT_START, SOME_START};
 use crate::alter::{codes_out_of_range, with_code};
 use crate::request::IMMEDIATE;
 use crate::station::frame::STRINGS_IN_A_FRAME;
@@ -9,8 +9,6 @@ use crate::station::record::STRINGS_OF_A_RECORD;
 use crate::string::NavString;
 use crate::words::kinds::{STRING_1, STRING_2};
 use crate::words::word::Word;
-
-const NEXT_START: u32 = SOME_START + STRINGS_IN_A_FRAME as u32;
 
 pub(super) fn add_all(input: &mut Input) {
     input.four_strings_in_every_order();
