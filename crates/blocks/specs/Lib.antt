@@ -3,3 +3,4 @@ pub mod Handing
 pub mod Along
 pub mod Histories
 pub mod Laws
+pub mod Witness
