@@ -4,6 +4,7 @@ use crate::line::put_hex;
 use crate::line::put_next;
 use crate::line::put_text;
 use crate::words_told::put_record;
+use fields::Why;
 use relative::Decoded;
 use relative::polarity_number;
 use strings::Checked;
@@ -26,6 +27,22 @@ pub(crate) fn say_no(text: &mut Text, r: Refusal) -> usize
         Refusal::Range(place) => put_next(text, end, place as u64),
         _ => end,
     }
+}
+
+// `no N PLACE`: a field of a block that is refused, with its place in the block.
+pub(crate) fn say_no_field(text: &mut Text, why: Why, place: usize) -> usize
+    ensures { λ n. ⌜ n ≤ 512 ⌝ }
+{
+    let no = put_text(text, 0, b"no");
+    let end = put_next(text, no, fields::why_number(why) as u64);
+    put_next(text, end, place as u64)
+}
+
+// `end`.
+pub(crate) fn say_end(text: &mut Text) -> usize
+    ensures { λ n. ⌜ n ≤ 512 ⌝ }
+{
+    put_text(text, 0, b"end")
 }
 
 // `bad OP`.

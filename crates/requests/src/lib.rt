@@ -1,6 +1,9 @@
 // Any public call, made by a request: one byte op, two bytes big-endian length, then that many bytes.
-// Requests come one after another on standard input, and each is answered by one line of output.
+// Requests come one after another on standard input, and each is answered by one line of output, but a
+// block by a line for each of its calls and one for its end. Or one block alone, of any length.
 mod answers;
+mod block_calls;
+mod block_stream;
 mod line;
 mod numbers;
 mod station_answers;
@@ -13,6 +16,8 @@ mod words_told;
 
 use answers::say_bad;
 use answers::say_short;
+use block_calls::block_call;
+pub use block_stream::list_block;
 use libc::STDIN_FILENO;
 use libc::STDOUT_FILENO;
 use line::Text;
@@ -65,7 +70,7 @@ fn told(op: u8, payload: &[u8], st: Station, text: &mut Text) -> usize
 }
 
 // Ends the line and writes it.
-fn print(text: &mut Text, n: usize)
+pub(crate) fn print(text: &mut Text, n: usize)
     requires { ⌜ n ≤ 512 ⌝ }
 {
     let end = put_text(text, n, b"\n");
@@ -94,7 +99,7 @@ fn ended(st: Station) -> Turned {
     }
 }
 
-// Reads the payload, of which the size is known, and prints the request's line.
+// Reads the payload, of which the size is known, and prints what the request is answered.
 fn finish(op: u8, size: usize, space: &mut [u8], st: Station) -> Turned
     requires { ⌜ (size < 65536) × (size ≤ length (now space)) ⌝ }
 {
@@ -104,14 +109,21 @@ fn finish(op: u8, size: usize, space: &mut [u8], st: Station) -> Turned
         print_short(3 + got);
         return ended(st);
     }
+    Turned {
+        station: print_answer(op, payload, st),
+        more: true,
+    }
+}
+
+// Prints the line for one whole request, or the lines of a block, and answers the station after it.
+fn print_answer(op: u8, payload: &[u8], st: Station) -> Station {
+    if op == 13 {
+        return block_call(payload, st);
+    }
     let mut text = [0u8; 512];
     let answered = answer(op, payload, st, &mut text);
     print(&mut text, answered.used);
-    let next = answered.station;
-    Turned {
-        station: next,
-        more: true,
-    }
+    answered.station
 }
 
 // Reads one request and prints its line.
