@@ -1,7 +1,7 @@
 -- All that `specs/Laws.antt` says of blocks and fields. Assumes nothing.
 use Rattle.fields.specs.Laws.{Laws}
 use Rattle.fields.proofs.EndToEnd.{follow}
-use Rattle.fields.proofs.Writing.{reads}
+use Rattle.fields.proofs.AsWritten.{reads}
 use Rattle.fields.proofs.OnceOnly.{once, ends, numbers-exactly, anywhere}
 
 pub laws : Laws

@@ -2,8 +2,7 @@ pub mod Answers
 pub mod Tested
 pub mod Whole
 pub mod Steps
-pub mod Writing
+pub mod AsWritten
 pub mod EndToEnd
 pub mod OnceOnly
-pub mod Turns
 pub mod Laws

@@ -18,7 +18,7 @@ use Rattle.fields.specs.declared.Why.{Why}
 use Rattle.fields.specs.declared.Why.the-variants.{Tag, Length, Cut}
 use Rattle.fields.specs.declared.Field.{Field}
 use Rattle.fields.specs.declared.Field.the-variants.{End, Offer, Reset, Remark, Refused}
-use Rattle.fields.specs.Fields.{tagIn, isUnknown, testsIn, isGood, sizeIn, sizeAt, whyNumber, fieldPaper, toldOf, saidAt, Finds}
+use Rattle.fields.specs.Fields.{tagIn, isUnknown, testsIn, isGood, sizeIn, sizeAt, fieldPaper, toldOf, saidAt, Finds}
 use Rattle.fields.specs.Block.{callIn}
 use Rattle.fields.specs.Laws.{bytesAt, elsewhere, Same}
 use Rattle.fields.proofs.Whole.{good-parts, size-none, size-then, calls-then, front-length, good-front, alone, calls-front}
@@ -27,12 +27,6 @@ use Rattle.fields.proofs.Tested.{good-tells, refused-tells, refused-nev
 -- ---- a field is known by its numbers
 whyBy : ℕ → Why
 whyBy n = pick (eqb n 41) Tag (pick (eqb n 42) Length Cut)
-
-why-back : (w : Why) → whyBy (whyNumber w) ≡ w
-unfolding whyBy
-why-back Tag = refl
-why-back Length = refl
-why-back Cut = refl
 
 fieldBy : List ℕ → Field
 fieldBy l =

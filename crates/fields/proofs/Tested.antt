@@ -1,22 +1,16 @@
 -- What the three tests of a field say: of a good one what it tells (good-tells); of another never 0 (refused-never), and the same whatever it would tell
--- (refused-tells). An end further on is the same end with its place further on (end-moved).
+-- (refused-tells).
 -- Assumes nothing.
 use mathlib.Core.Path.{_≡_, refl, sym, ap}
 use mathlib.Core.Bool.{Bool, true, false, not, _||_, true≢false}
-use mathlib.Core.List.{List, [], _∷_, _++_}
-use Prim.Native.Nat.{ℕ, _+_}
+use mathlib.Core.List.{List, [], _∷_}
+use Prim.Native.Nat.{ℕ}
 use native.Mathlib.Omega.{arith}
-use lib.Dec.{leb}
-use lib.ListN.{length, getD, drop, length-append}
-use lib.Seq.{drop-append-add}
-use borrow.Author.Tests.{leb-true, leb-false, le-leb, lt-leb}
-use Rattle.strings.specs.Pick.{pick}
+use lib.ListN.{length, getD}
 use Rattle.strings.specs.Numbers.{Test, testAt, answerOf}
 use Rattle.fields.specs.Fields.{tagIn, lengthIn, isUnknown, isWrong, isCut, testsIn, isGood}
-use Rattle.fields.specs.Block.{endAt}
-use Rattle.fields.specs.Laws.{onward}
 
-abbrev three : ℕ → Bool → Bool → Bool → List Test
+abbrev pub three : ℕ → Bool → Bool → Bool → List Test
 three at a b c = testAt 43 at a ∷ testAt 41 at b ∷ testAt 42 at c ∷ []
 
 -- ---- of any three
@@ -60,25 +54,3 @@ module _ (at : ℕ) (rest told : List ℕ) where
   pub refused-never : (l : List ℕ) → isGood rest ≡ false → answerOf (testsIn at rest) told ≡ 0 ∷ l → ⊥
   unfolding isGood
   refused-never = never cut unknown wrong at told
-
--- ---- an end further on
-leb-add : (n x y : ℕ) → leb (n + x) (n + y) ≡ leb x y
-leb-add n x y = by (leb x y) refl
-  where
-    by : (b : Bool) → leb x y ≡ b → leb (n + x) (n + y) ≡ b
-    by true e = le-leb (n + x) (n + y) (omega (arith, leb-true x y e))
-    by false e = lt-leb (n + x) (n + y) (omega (arith, leb-false x y e))
-
-moved-on : (n at : ℕ) (t a b c : Bool)
-    → pick t (0 ∷ []) (answerOf (three (n + at) a b c) []) ≡ onward n (pick t (0 ∷ []) (answerOf (three at a b c) []))
-moved-on n at true a b c = refl
-moved-on n at false true b c = refl
-moved-on n at false false true c = refl
-moved-on n at false false false true = refl
-moved-on n at false false false false = refl
-
-pub end-moved : (a b : List ℕ) (stop : ℕ) → endAt (a ++ b) (length a + stop) ≡ onward (length a) (endAt b stop)
-end-moved a b stop =
-    let rest = drop stop b in
-    rw (length-append a b, leb-add, drop-append-add a b stop)
-    (moved-on (length a) stop (leb (length b) stop) (isCut (lengthIn rest) (length rest)) (isUnknown (tagIn rest)) (isWrong (tagIn rest) (lengthIn rest)))

@@ -1,4 +1,5 @@
--- `reader::advance` meets its contract: a walk of its MIR, by hand. The borrow of the reader is opened, `field_at` is called on the slice and the place, the place is moved, and the borrow is closed at the reader with the new place.
+-- `reader::advance` meets its contract: a walk of its MIR, by hand. The borrow of the reader is opened, `field_at` is called on the slice and the place,
+-- the place is moved, and the borrow is closed at the reader with the new place.
 -- The slice is Copy: what the reader owns is had twice, and one copy goes to the callee, beside the token of 'a, which comes back.
 -- Assumes nothing.
 use mathlib.Core.Path.{_≡_, refl, subst}

@@ -1,5 +1,7 @@
--- `reader::next_at` meets its contract: a walk of its MIR, by hand. A reader is made and moved, and lies in a local that is lent to `advance` by `&mut`, for a lifetime that the walk makes within that of the slice.
--- All that the proof knows of `new`, `moved` and `advance` is that each meets its contract. In a local MIR erases the lifetime of the struct's type, so a value is shown to have the type at `erased`.
+-- `reader::next_at` meets its contract: a walk of its MIR, by hand. A reader is made and moved, and lies in a local that is lent to `advance` by `&mut`,
+-- for a lifetime that the walk makes within that of the slice.
+-- All that the proof knows of `new`, `moved` and `advance` is that each meets its contract. In a local MIR erases the lifetime of the struct's type, so a
+-- value is shown to have the type at `erased`.
 -- Assumes nothing.
 use mathlib.Core.Path.{_≡_, refl, subst, _∙_}
 use Prim.Native.Nat.{ℕ, _<_, _^_}
