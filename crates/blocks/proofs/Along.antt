@@ -1,19 +1,19 @@
--- The fields of a block one by one: a field's answers are those of its calls (answers-are); so the answers along a block are those of its calls one by one, and
--- the last station and the end are the block's (as-calls). Every field has an answer (some-told), and every block can be passed (passes).
+-- The fields of a block one by one: a field's answers are those of its calls (answers-are); so the answers along a block are those of its calls one by
+-- one, and the last station and the end are the block's (as-calls). Every field has an answer (takes), and every block can be passed (passes).
 -- Assumes nothing.
 use mathlib.Core.Path.{_≡_, refl, sym, ap, ap₂, subst, _∙_}
 use mathlib.Core.Bool.{Bool, true, false, not, _||_, true≢false}
 use mathlib.Core.List.{List, [], _∷_, _++_}
-use Prim.Native.Nat.{ℕ, zero, suc, _+_, _-_, _≤_, _<_}
+use Prim.Native.Nat.{ℕ, zero, suc, _+_, _-_, _≤_}
 use native.Mathlib.Omega.{arith}
 use lib.Dec.{eqb, leb}
 use lib.ListN.{length, getD, drop}
-use borrow.Author.Tests.{eqb-true, eqb-false, lt-leb}
+use borrow.Author.Tests.{eqb-true, eqb-false}
 use Rattle.strings.specs.Pick.{pick}
 use Rattle.strings.specs.Numbers.{testAt, answerOf}
 use Rattle.fields.specs.declared.Why.the-variants.{Tag, Length, Cut}
 use Rattle.fields.specs.Sixteen.{channelIn, epochIn, symbolsIn}
-use Rattle.fields.specs.Fields.{tagIn, lengthIn, bodyIn, isUnknown, isWrong, isCut, testsIn, isGood, sizeIn, sizeAt, whyNumber}
+use Rattle.fields.specs.Fields.{tagIn, lengthIn, bodyIn, isUnknown, isWrong, isCut, testsIn, isGood, sizeAt}
 use Rattle.fields.specs.Block.{Call, offerOf, resetOf, callIn, endFrom}
 use Rattle.fields.proofs.Tested.{good-tells}
 use Rattle.fields.proofs.Answers.{third}
@@ -28,7 +28,7 @@ use Rattle.blocks.specs.Taking.{answerIn, afterCalls, answersTo, toldPap
 use Rattle.blocks.specs.Handing.{endedPaper, endedBy}
 use Rattle.blocks.specs.Along.{answersIn, Along, stops as Stop, goes as Go, Passed, AsCalls}
 use Rattle.blocks.proofs.Found.{no-number, calls-where}
-use Rattle.blocks.proofs.Steps.{after-append, answers-append, from, falls, moves, stops}
+use Rattle.blocks.proofs.Steps.{after-append, answers-append, from, moves, stops, says-call}
 
 -- ---- a field's answers
 -- by what it tells
@@ -49,14 +49,6 @@ unfolding answersTo
 by-calls st true b x y = refl
 by-calls st false true x y = refl
 by-calls st false false x y = refl
-
--- a good field before the end tells its tag and its answer
-pub says-call : (st : Station) (block : List ℕ) (at : ℕ) → isGood (drop at block) ≡ true
-    → fieldSays st block at ≡ 0 ∷ tagIn (drop at block) ∷ answerAmong st (callIn (drop at block))
-unfolding fieldSays
-says-call st block at e =
-    let f = falls block at e in
-    rw (lt-leb (length block) at (omega (arith, f .0, f .1))) (good-tells at (drop at block) _ e)
 
 module _ {st : Station} {block : List ℕ} {at : ℕ} {r : Taken} (t : Takes st block at r) where
   pub answers-are : isGood (drop at block) ≡ true → answersIn (r .told) ≡ answersTo st (callsAt block at)

@@ -1,5 +1,5 @@
--- What a field that was found says of its block: at the end (end-there), refused (refused-there), or good, with its tag and the place of its body (good-there);
--- and so what it leads to on a station (takes-end, takes-refused, takes-remark, takes-call).
+-- What a field that was found says of its block: at the end (end-there), refused (refused-there), or good, with its tag and the place of its body
+-- (good-there); and so what it leads to on a station (takes-end, takes-refused, takes-remark, takes-offer, takes-reset).
 -- Assumes nothing.
 use mathlib.Core.Path.{_≡_, refl, sym, ap, ap₂, subst, _∙_}
 use mathlib.Core.Bool.{Bool, true, false, not, _||_, true≢false}
@@ -17,7 +17,7 @@ use Rattle.fields.specs.declared.Why.the-variants.{Tag, Length, Cut}
 use Rattle.fields.specs.declared.Field.{Field}
 use Rattle.fields.specs.declared.Field.the-variants.{End, Offer as OfferAt, Reset as ResetAt, Remark, Refused}
 use Rattle.fields.specs.Sixteen.{channelIn, epochIn, symbolsIn}
-use Rattle.fields.specs.Fields.{tagIn, lengthIn, bodyIn, isUnknown, isWrong, isCut, testsIn, isGood, sizeIn, sizeAt, whyNumber, fieldPaper, toldOf, saidAt, Finds}
+use Rattle.fields.specs.Fields.{tagIn, lengthIn, bodyIn, isUnknown, isWrong, isCut, testsIn, isGood, whyNumber, fieldPaper, toldOf, saidAt, Finds}
 use Rattle.fields.specs.Block.{Call, Offer, Reset, offerOf, callIn}
 use Rattle.fields.proofs.Whole.{Good, good-parts}
 use Rattle.station.specs.declared.Station.{Station}
@@ -91,7 +91,9 @@ module _ (block : List ℕ) (at : ℕ) where
   unfolding saidAt isGood
   good-there n ps e =
       let rest = drop at block in
-      let q = good-by-tests (leb (length block) at) (isCut (lengthIn rest) (length rest)) (isUnknown (tagIn rest)) (isWrong (tagIn rest) (lengthIn rest)) at n ps (toldOf at (tagIn rest)) e in
+      let q =
+      good-by-tests (leb (length block) at) (isCut (lengthIn rest) (length rest)) (isUnknown (tagIn rest)) (isWrong (tagIn rest) (lengthIn rest)) at n ps
+      (toldOf at (tagIn rest)) e in
       let tag : tagIn rest ≡ suc n = sym (ap (λ (l : List ℕ). getD l 0 0) (q .1 .1)) in (
         record { before = leb-false (length block) at (q .0); good = q .1 .0; its-tag = tag },
         ap (λ (l : List ℕ). drop 1 l) (q .1 .1) ∙ ap (λ (k : ℕ). pick (eqb k 3) [] ((at + 3) ∷ [])) tag,
@@ -101,14 +103,16 @@ module _ (block : List ℕ) (at : ℕ) where
   unfolding saidAt
   end-there e =
       let rest = drop at block in
-      leb-true (length block) at (end-by-tests (leb (length block) at) (isCut (lengthIn rest) (length rest)) (isWrong (tagIn rest) (lengthIn rest)) at (tagIn rest) e)
+      leb-true (length block) at
+      (end-by-tests (leb (length block) at) (isCut (lengthIn rest) (length rest)) (isWrong (tagIn rest) (lengthIn rest)) at (tagIn rest) e)
 
   refused-there : (why : Why) (ps told : List ℕ) → whyNumber why ∷ ps ≡ saidAt block at
       → (whyNumber why ∷ ps ≡ pick (leb (length block) at) (0 ∷ 0 ∷ []) (answerOf (testsIn at (drop at block)) told)) × (isGood (drop at block) ≡ false)
   unfolding saidAt isGood
   refused-there why ps told e =
       let rest = drop at block in
-      refused-by-tests (leb (length block) at) (isCut (lengthIn rest) (length rest)) (isUnknown (tagIn rest)) (isWrong (tagIn rest) (lengthIn rest)) at (whyNumber why) ps (toldOf at (tagIn rest)) told (no-number why) e
+      refused-by-tests (leb (length block) at) (isCut (lengthIn rest) (length rest)) (isUnknown (tagIn rest)) (isWrong (tagIn rest) (lengthIn rest)) at
+      (whyNumber why) ps (toldOf at (tagIn rest)) told (no-number why) e
 
   -- the parts of a good field
   module _ {tag : ℕ} (g : GoodAt block at tag) where
@@ -160,8 +164,8 @@ unfolding isGood
 none-empty = refl
 
 -- an offer's answer and station, as the code reads its bytes
-pub makes-offer : (st : Station) (body : List ℕ) {c epoch after : ℕ} {s : List ℕ} (r : Stepped) → c ≡ channelIn body → epoch ≡ epochIn body → s ≡ symbolsIn body
-    → OffersTo st c epoch s r → Makes st (offerOf body) after (record { station = r .station; told = Offers (r .answer); after = after })
+pub makes-offer : (st : Station) (body : List ℕ) {c epoch after : ℕ} {s : List ℕ} (r : Stepped) → c ≡ channelIn body → epoch ≡ epochIn body
+    → s ≡ symbolsIn body → OffersTo st c epoch s r → Makes st (offerOf body) after (record { station = r .station; told = Offers (r .answer); after = after })
 unfolding answerIn afterCall
 makes-offer st body {c} {epoch} {after} {s} r p q w o =
     let e : Offer c epoch s ≡ offerOf body =
@@ -221,7 +225,8 @@ module _ {block : List ℕ} {at after : ℕ} {f : Field} (found : Finds block at
       reset-byte =
           let n : 0 < lengthIn (drop at block) = omega (arith, one-byte block at (reset-there .0)) in
           let k : at + 3 + 0 ≡ at + 3 = omega arith in
-          ap (λ (j : ℕ). getD block j 0) (reset-place ∙ sym k) ∙ sym (getD-drop (at + 3) block 0 0) ∙ ap (λ (l : List ℕ). getD l 0 0) (sym (drop-drop 3 at block))
+          ap (λ (j : ℕ). getD block j 0) (reset-place ∙ sym k) ∙ sym (getD-drop (at + 3) block 0 0)
+          ∙ ap (λ (l : List ℕ). getD l 0 0) (sym (drop-drop 3 at block))
           ∙ sym (getD-take (lengthIn (drop at block)) (drop 3 (drop at block)) 0 0 n)
 
       pub takes-reset : {st : Station} {r : Taken} → Makes st (Reset (getD block body 0)) after r → Takes st block at r
@@ -245,7 +250,8 @@ module _ {block : List ℕ} {at after : ℕ} {f : Field} (found : Finds block at
     pub takes-refused : (why : Why) (place : ℕ) → f ≡ Refused why place → Left st (Refuses why place) after r → Takes st block at r
     unfolding fieldSays
     takes-refused why place e l =
-        let q = refused-there block at why (place ∷ []) (tagIn (drop at block) ∷ answerAmong st (callIn (drop at block))) (ap fieldPaper (sym e) ∙ found .answer) in
+        let l′ = tagIn (drop at block) ∷ answerAmong st (callIn (drop at block)) in
+        let q = refused-there block at why (place ∷ []) l′ (ap fieldPaper (sym e) ∙ found .answer) in
         record {
           answer = ap toldPaper (l .1 .0) ∙ q .0;
           station = l .0 ∙ no-calls st (callsAt block at) (none-where block at (q .1));

@@ -1,11 +1,9 @@
--- Demand 3 reads a block as its calls: calls and blocks from any station are a run of their calls (as-calls), so all that is demanded of histories holds of them
--- (blocks-as-calls).
+-- Demand 3 reads a block as its calls: calls and blocks from any station are a run of their calls (as-calls), so all that is demanded of histories holds
+-- of them (blocks-as-calls).
 -- Assumes nothing.
-use mathlib.Core.Path.{_≡_, refl, sym, ap, ap₂, subst, _∙_}
+use mathlib.Core.Path.{sym, subst}
 use mathlib.Core.List.{List, [], _∷_}
 use Prim.Native.Nat.{ℕ}
-use Rattle.strings.specs.Calls.{writtenPaper}
-use Rattle.channel.specs.Offers.{answerPaper}
 use Rattle.fields.specs.Block.{Call, Offer, Reset, callsIn}
 use Rattle.station.specs.declared.Station.{Station}
 use Rattle.station.specs.declared.Stepped.{Stepped}
@@ -13,7 +11,6 @@ use Rattle.station.specs.declared.Emptied.{Emptied}
 use Rattle.station.specs.Station.{freshStation, stationAfter, stationReset}
 use Rattle.station.specs.History.{Offer as MadeOffer, Reset as MadeReset, Runs}
 use Rattle.station.specs.Said.{Said, said, RunsFrom, none as None, offers as Offers, resets as Resets}
-use Rattle.station.specs.Demands.{AllDemands}
 use Rattle.station.proofs.EveryHistory.{some-answer, offer-answers, reset-answer, reset-answers}
 use Rattle.station.proofs.Demands.{demands}
 use Rattle.blocks.specs.Taking.{answerIn, afterCall, afterCalls, answersTo}
@@ -72,7 +69,8 @@ blocks-as-calls =
       exchange = λ later earlier x y h st n run e.
           demands .exchange later earlier x y st n (subst (λ (l : List Said). RunsFrom freshStation l st) e (its-run run));
       packed = λ later earlier x y g h st st′ n run e run′ e′.
-          demands .exchange later earlier x y st n (subst (λ (l : List Said). RunsFrom freshStation l st) e (its-run run)) .only (saidIn h) st′ (its-run run′) e′;
+          demands .exchange later earlier x y st n (subst (λ (l : List Said). RunsFrom freshStation l st) e (its-run run)) .only (saidIn h) st′
+          (its-run run′) e′;
       reordering = λ g h st st′ run run′. demands .reordering (saidIn g) (saidIn h) st st′ (its-run run) (its-run run′);
       two-cards = λ g h st st′ run run′ same. demands .two-cards (callsBy g) (callsBy h) same st st′ (its-calls run) (its-calls run′);
       book = λ h st run. demands .book (callsBy h) st (its-calls run);

@@ -1,12 +1,12 @@
 -- What holds of every block that is handed to a station (the statements stand in `specs/Laws.antt`).
 -- Assumes nothing.
-use mathlib.Core.Path.{_≡_, refl, sym, ap, ap₂, subst, _∙_}
-use mathlib.Core.Bool.{Bool, true, false, true≢false}
+use mathlib.Core.Path.{_≡_, refl, sym, ap, ap₂, _∙_}
+use mathlib.Core.Bool.{Bool, true, false}
 use mathlib.Core.List.{List, [], _∷_, _++_, append-nil}
 use mathlib.Core.Logic.{_↔_}
 use Prim.Native.Nat.{ℕ, _+_, _≤_, _<_}
 use native.Mathlib.Omega.{arith}
-use lib.Dec.{leb, ltb}
+use lib.Dec.{leb}
 use lib.ListN.{length, getD, take, drop, length-append, length-drop, List·getD-append}
 use lib.Seq.{take-append-le, drop-append-le}
 use borrow.Author.Tests.{le-leb, lt-leb, leb-true, leb-false, le-ltb}
@@ -20,7 +20,7 @@ use Rattle.fields.specs.Fields.{tagIn, lengthIn, isUnknown, isWrong, isCut, tes
 use Rattle.fields.specs.Block.{Call, callIn, callsOf, callsIn, endIn}
 use Rattle.fields.specs.Written.{Item, blockOf, callsAmong, AllFit}
 use Rattle.fields.specs.Laws.{onward}
-use Rattle.fields.proofs.Whole.{good-parts, size-none}
+use Rattle.fields.proofs.Whole.{size-none}
 use Rattle.fields.proofs.Tested.{refused-never}
 use Rattle.fields.proofs.Steps.{fields-none}
 use Rattle.fields.proofs.Laws.{laws as fields-laws}
@@ -33,13 +33,13 @@ use Rattle.blocks.specs.declared.Taken.{Taken}
 use Rattle.blocks.specs.declared.Ended.{Ended}
 use Rattle.blocks.specs.declared.Ended.the-variants.{Whole, Refused as Stopped}
 use Rattle.blocks.specs.declared.Handed.{Handed}
-use Rattle.blocks.specs.Taking.{afterCalls, toldPaper, answerAmong, fieldSays, callsAt, Takes}
+use Rattle.blocks.specs.Taking.{afterCalls, toldPaper, answerAmong, fieldSays, Takes}
 use Rattle.blocks.specs.Handing.{endedPaper, HandsOver}
-use Rattle.blocks.specs.Along.{Along, Passed, AsCalls}
+use Rattle.blocks.specs.Along.{Along}
 use Rattle.blocks.specs.Laws.{Laws}
 use Rattle.blocks.proofs.Found.{no-number, none-where}
-use Rattle.blocks.proofs.Steps.{after-append, end-none}
-use Rattle.blocks.proofs.Along.{taken, takes, says-call, as-calls, passes}
+use Rattle.blocks.proofs.Steps.{after-append, end-none, never-0, says-call}
+use Rattle.blocks.proofs.Along.{taken, takes, as-calls, passes}
 
 -- ---- the numbers determine what is told
 why-of : ℕ → Why
@@ -144,9 +144,6 @@ refused st block at r t e = (
 )
 
 -- the end is told at the end
-never-0 : (rest : List ℕ) → isGood rest ≡ true → tagIn rest ≡ 0 → ⊥
-never-0 rest e z = true≢false (ap isUnknown (sym z) ∙ good-parts rest e .known)
-
 module _ (st : Station) (block : List ℕ) (at : ℕ) (r : Taken) (t : Takes st block at r) where
   abbrev rest : List ℕ
   rest = drop at block
@@ -188,7 +185,8 @@ follow : (st : Station) (a b : List ℕ) (r q s : Handed) → HandsOver st a r �
     → s .station ≡ q .station
 follow st a b r q s o e p w =
     let f = fields-laws .follow a b (sym (o .end) ∙ ap endedPaper e) in
-    w .station ∙ ap (afterCalls st) (f .calls) ∙ after-append st (callsIn a) (callsIn b) ∙ ap (λ (x : Station). afterCalls x (callsIn b)) (sym (o .station)) ∙ sym (p .station)
+    w .station ∙ ap (afterCalls st) (f .calls) ∙ after-append st (callsIn a) (callsIn b)
+    ∙ ap (λ (x : Station). afterCalls x (callsIn b)) (sym (o .station)) ∙ sym (p .station)
 
 -- ---- what is refused
 none-in : (rest : List ℕ) → isGood rest ≡ false → callsIn rest ≡ []
@@ -198,7 +196,8 @@ none-in rest e = ap callsOf (fields-none rest e)
 kept : (st : Station) (before rest : List ℕ) (r : Handed) → endIn before ≡ 0 ∷ [] → isGood rest ≡ false → HandsOver st (before ++ rest) r
     → r .station ≡ afterCalls st (callsIn before)
 kept st before rest r w e o =
-    o .station ∙ ap (afterCalls st) (fields-laws .follow before rest w .calls ∙ ap (λ (l : List Call). callsIn before ++ l) (none-in rest e) ∙ append-nil (callsIn before))
+    let l = fields-laws .follow before rest w .calls ∙ ap (λ (l : List Call). callsIn before ++ l) (none-in rest e) ∙ append-nil (callsIn before) in
+    o .station ∙ ap (afterCalls st) l
 
 -- a field that is refused though it is whole, with any bytes after it
 module _ (field : List ℕ) (e : isGood field ≡ false) (h : 3 + lengthIn field ≤ length field) where
@@ -219,7 +218,8 @@ module _ (field : List ℕ) (e : isGood field ≡ false) (h : 3 + lengthIn field
     refused-then =
         rw (whole-then, tag-then, length-then) (rw (le-ltb (length field) (3 + lengthIn field) h) at e)
 
-    end-then : endIn (field ++ x) ≡ answerOf (testAt 43 0 false ∷ testAt 41 0 (isUnknown (tagIn field)) ∷ testAt 42 0 (isWrong (tagIn field) (lengthIn field)) ∷ []) []
+    end-then : endIn (field ++ x)
+        ≡ answerOf (testAt 43 0 false ∷ testAt 41 0 (isUnknown (tagIn field)) ∷ testAt 42 0 (isWrong (tagIn field) (lengthIn field)) ∷ []) []
     end-then =
         end-none (field ++ x) 0 refused-then
         ∙ rw (lt-leb (length (field ++ x)) 0 (omega (arith, length-append field x)), whole-then, tag-then, length-then)

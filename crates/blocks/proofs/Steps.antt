@@ -1,30 +1,30 @@
--- The calls of a block from a place on (from-good, from-none), and how the reading from there ends (end-good, end-none). So a field that was taken either moves on
--- (moves) or ends the block (stops); and what was handed over up to a place, with what is left, is the whole (So-far, so-far-none, so-far-more, so-far-all).
+-- The calls of a block from a place on (from-good, from-none), and how the reading from there ends (end-good, end-none). So a field that was taken either
+-- moves on (moves) or ends the block (stops), as what is told says (goes-on, last-stays); and what was handed over up to a place, with what is left, is the
+-- whole (So-far, so-far-none, so-far-more, so-far-all).
 -- Assumes nothing.
-use mathlib.Core.Path.{_≡_, refl, sym, ap, ap₂, subst, _∙_}
-use mathlib.Core.Bool.{Bool, true, false, not, _||_, true≢false}
+use mathlib.Core.Path.{_≡_, refl, sym, ap, ap₂, _∙_}
+use mathlib.Core.Bool.{Bool, true, false, not, true≢false}
 use mathlib.Core.List.{List, [], _∷_, _++_}
-use Prim.Native.Nat.{ℕ, suc, _+_, _-_, _≤_, _<_}
+use Prim.Native.Nat.{ℕ, _+_, _≤_, _<_}
 use native.Mathlib.Omega.{arith}
 use lib.Dec.{leb}
 use lib.ListN.{length, getD, take, drop, length-append, length-drop}
 use lib.Seq.{drop-drop}
-use borrow.Author.Tests.{le-leb, lt-leb}
+use borrow.Author.Tests.{lt-leb}
 use Rattle.strings.specs.Pick.{pick}
-use Rattle.strings.specs.Numbers.{testAt, answerOf}
-use Rattle.fields.specs.Fields.{tagIn, lengthIn, isUnknown, isWrong, isCut, testsIn, isGood, sizeIn, sizeAt, whyNumber}
+use Rattle.strings.specs.Numbers.{answerOf}
+use Rattle.fields.specs.Fields.{tagIn, isUnknown, testsIn, isGood, sizeIn}
 use Rattle.fields.specs.Block.{Call, callIn, fieldsIn, callsOf, callsIn, joined, endAt, endFrom, endIn}
 use Rattle.fields.proofs.Whole.{good-parts, size-is, size-none, front-length, calls-front}
-use Rattle.fields.proofs.Tested.{refused-tells, refused-never}
+use Rattle.fields.proofs.Tested.{good-tells, refused-tells, refused-never}
 use Rattle.fields.proofs.Steps.{fields-none, fields-good}
 use Rattle.station.specs.declared.Station.{Station}
 use Rattle.blocks.specs.declared.Told.{Told}
 use Rattle.blocks.specs.declared.Told.the-variants.{End, Offered, Emptied, Remark, Refused}
 use Rattle.blocks.specs.declared.Taken.{Taken}
 use Rattle.blocks.specs.declared.Ended.{Ended}
-use Rattle.blocks.specs.declared.Handed.{Handed}
 use Rattle.blocks.specs.Taking.{answerIn, afterCall, afterCalls, answersTo, toldPaper, answerAmong, fieldSays, callsAt, Takes}
-use Rattle.blocks.specs.Handing.{endedPaper, HandsOver, endedBy}
+use Rattle.blocks.specs.Handing.{endedPaper, HandsOver, isLast, endedBy}
 use Rattle.blocks.proofs.Found.{no-number, calls-where, none-where}
 
 -- ---- calls one after the other
@@ -63,7 +63,8 @@ module _ (block : List ℕ) (at : ℕ) where
     unfolding endFrom joined
     end-good =
         let n : at + length (joined (fieldsIn rest)) ≡ at + size + length (joined (fieldsIn (drop (at + size) block))) =
-        ap (λ (k : ℕ). at + k) (ap (λ (fs : List (List ℕ)). length (joined fs)) (fields-good rest e) ∙ length-append (take size rest) (joined (fieldsIn (drop size rest)))
+        ap (λ (k : ℕ). at + k)
+        (ap (λ (fs : List (List ℕ)). length (joined fs)) (fields-good rest e) ∙ length-append (take size rest) (joined (fieldsIn (drop size rest)))
         ∙ ap₂ _+_ (front-length rest e) (ap (λ (l : List ℕ). length (joined (fieldsIn l))) left-of)) ∙ omega arith in
         ap (endAt block) n
 
@@ -91,7 +92,8 @@ module _ (block : List ℕ) (at : ℕ) (e : isGood (drop at block) ≡ false) wh
   whole (Refused why place) p = absurd (no-number why (ap (λ (l : List ℕ). getD l 0 0) p))
 
   -- before it, a number and its place
-  stopped : (told : Told) (l : List ℕ) → toldPaper told ≡ answerOf (testsIn at (drop at block)) l → endedPaper (endedBy told) ≡ answerOf (testsIn at (drop at block)) []
+  stopped : (told : Told) (l : List ℕ) → toldPaper told ≡ answerOf (testsIn at (drop at block)) l
+      → endedPaper (endedBy told) ≡ answerOf (testsIn at (drop at block)) []
   stopped End l p = absurd (refused-never at (drop at block) l _ e (sym p))
   stopped (Offered answer) l p = absurd (refused-never at (drop at block) l _ e (sym p))
   stopped (Emptied answer) l p = absurd (refused-never at (drop at block) l _ e (sym p))
@@ -102,7 +104,8 @@ module _ (block : List ℕ) (at : ℕ) (e : isGood (drop at block) ≡ false) wh
   unfolding fieldSays
   ended st told p = by (leb (length block) at) p
     where
-      by : (b : Bool) → toldPaper told ≡ pick b (0 ∷ 0 ∷ []) (answerOf (testsIn at (drop at block)) (tagIn (drop at block) ∷ answerAmong st (callIn (drop at block))))
+      by : (b : Bool)
+          → toldPaper told ≡ pick b (0 ∷ 0 ∷ []) (answerOf (testsIn at (drop at block)) (tagIn (drop at block) ∷ answerAmong st (callIn (drop at block))))
           → endedPaper (endedBy told) ≡ pick b (0 ∷ []) (answerOf (testsIn at (drop at block)) [])
       by true q = whole told q
       by false q = stopped told _ q
@@ -150,6 +153,61 @@ module _ {st : Station} {block : List ℕ} {at : ℕ} {r : Taken} (t : Takes st 
             none = none-where block at e;
             end = ended block at e st (r .told) (t .answer) ∙ sym (end-none block at e);
           }
+
+-- ---- what is told says whether it moves on
+pub never-0 : (rest : List ℕ) → isGood rest ≡ true → tagIn rest ≡ 0 → ⊥
+never-0 rest e z = true≢false (ap isUnknown (sym z) ∙ good-parts rest e .known)
+
+-- a good field before the end tells its tag and its answer
+pub says-call : (st : Station) (block : List ℕ) (at : ℕ) → isGood (drop at block) ≡ true
+    → fieldSays st block at ≡ 0 ∷ tagIn (drop at block) ∷ answerAmong st (callIn (drop at block))
+unfolding fieldSays
+says-call st block at e =
+    let f = falls block at e in
+    rw (lt-leb (length block) at (omega (arith, f .0, f .1))) (good-tells at (drop at block) _ e)
+
+module _ {st : Station} {block : List ℕ} {at : ℕ} {r : Taken} (t : Takes st block at r) where
+  -- a good field is not the last
+  good-goes : isGood (drop at block) ≡ true → isLast (r .told) ≡ false
+  good-goes e = by (r .told) (t .answer ∙ says-call st block at e)
+    where
+      by : (told : Told) → toldPaper told ≡ 0 ∷ tagIn (drop at block) ∷ answerAmong st (callIn (drop at block)) → isLast told ≡ false
+      by End p = absurd (never-0 (drop at block) e (sym (ap (λ (l : List ℕ). getD l 1 0) p)))
+      by (Offered answer) p = refl
+      by (Emptied answer) p = refl
+      by Remark p = refl
+      by (Refused why place) p = absurd (no-number why (ap (λ (l : List ℕ). getD l 0 0) p))
+
+  -- and one that is refused is
+  none-stops : isGood (drop at block) ≡ false → isLast (r .told) ≡ true
+  unfolding fieldSays
+  none-stops e = by (leb (length block) at) (r .told) (t .answer)
+    where
+      by : (b : Bool) (told : Told)
+          → toldPaper told ≡ pick b (0 ∷ 0 ∷ []) (answerOf (testsIn at (drop at block)) (tagIn (drop at block) ∷ answerAmong st (callIn (drop at block))))
+          → isLast told ≡ true
+      by b End p = refl
+      by b (Refused why place) p = refl
+      by true (Offered answer) p = let z : _≡_ {A = ℕ} 1 0 = ap (λ (l : List ℕ). getD l 1 0) p in absurd (omega arith)
+      by true (Emptied answer) p = let z : _≡_ {A = ℕ} 2 0 = ap (λ (l : List ℕ). getD l 1 0) p in absurd (omega arith)
+      by true Remark p = let z : _≡_ {A = ℕ} 3 0 = ap (λ (l : List ℕ). getD l 1 0) p in absurd (omega arith)
+      by false (Offered answer) p = absurd (refused-never at (drop at block) _ _ e (sym p))
+      by false (Emptied answer) p = absurd (refused-never at (drop at block) _ _ e (sym p))
+      by false Remark p = absurd (refused-never at (drop at block) _ _ e (sym p))
+
+  pub last-stays : isLast (r .told) ≡ true → r .after ≡ at
+  last-stays l = by (isGood (drop at block)) refl
+    where
+      by : (b : Bool) → isGood (drop at block) ≡ b → r .after ≡ at
+      by true e = absurd (true≢false (sym l ∙ good-goes e))
+      by false e = t .next ∙ ap (λ (k : ℕ). at + k) (size-none (drop at block) e) ∙ omega arith
+
+  pub goes-on : isLast (r .told) ≡ false → r .after ≡ at → ⊥
+  goes-on l h = by (isGood (drop at block)) refl
+    where
+      by : (b : Bool) → isGood (drop at block) ≡ b → ⊥
+      by true e = omega (arith, falls block at e .0, t .next, h)
+      by false e = true≢false (sym (none-stops e) ∙ l)
 
 -- ---- what was handed over up to a place, and what is left
 pub record So-far (st : Station) (block : List ℕ) (next : Station) (at : ℕ) : Type 0 where

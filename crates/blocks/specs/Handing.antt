@@ -2,6 +2,7 @@
 -- For any station and any bytes.
 -- Assumes nothing.
 use Prim.Native.Nat.{ℕ}
+use mathlib.Core.Bool.{Bool, true, false}
 use mathlib.Core.List.{List, [], _∷_}
 use mathlib.Core.Path.{_≡_}
 use Rattle.fields.specs.Fields.{whyNumber}
@@ -23,6 +24,14 @@ endedPaper (Stopped why at) = whyNumber why ∷ at ∷ []
 pub record HandsOver (st : Station) (block : List ℕ) (r : Handed) : Type 0 where
   pub station : r .station ≡ afterCalls st (callsIn block)
   pub end : endedPaper (r .ended) ≡ endIn block
+
+-- the work stops at the end of the block and at a field that is refused, and nowhere else
+abbrev pub isLast : Told → Bool
+isLast End = true
+isLast (Offered answer) = false
+isLast (Emptied answer) = false
+isLast Remark = false
+isLast (Refused why at) = true
 
 -- the end by what the last field led to
 abbrev pub endedBy : Told → Ended

@@ -38,8 +38,8 @@ pub data RunsBy (from : Station) : List Event → Station → Type 0 where
       → RunsBy from (Calls (said (MadeOffer c epoch s) (answerPaper (r .answer))) ∷ before) (r .station)
   resets : (c : ℕ) (before : List Event) (st : Station) (r : Emptied) → RunsBy from before st → Resets st c r
       → RunsBy from (Calls (said (MadeReset c) (writtenPaper (r .answer))) ∷ before) (r .station)
-  hands : (block : List ℕ) (answers : List (List ℕ)) (before : List Event) (st : Station) (r : Handed) (last : Station) (ended : Ended) → RunsBy from before st
-      → HandsOver st block r → Along block st 0 answers last ended → RunsBy from (Hands block answers ∷ before) (r .station)
+  hands : (block : List ℕ) (answers : List (List ℕ)) (before : List Event) (st : Station) (r : Handed) (last : Station) (ended : Ended)
+      → RunsBy from before st → HandsOver st block r → Along block st 0 answers last ended → RunsBy from (Hands block answers ∷ before) (r .station)
 
 -- ---- the calls alone, each with its answer
 abbrev pub made : Call → Made
@@ -71,8 +71,8 @@ pub record BlocksAsCalls : Type 0 where
   -- "The four tallies are the true counts since the channel's reset"
   pub tallies : (h : List Event) (st : Station) → RunsBy freshStation h st → (c : ℕ) → isNoChannel c ≡ false → Tallied (saidIn h) st c
   pub counts : (h : List Event) (st : Station) → RunsBy freshStation h st → (c : ℕ) → isNoChannel c ≡ false → Counted (callsBy h) st c
-  -- "Exchange two neighbouring calls on different channels: each call's answer and the whole station afterwards are unchanged": wherever the two stand, in one
-  -- block, at the edge of one, or in two blocks
+  -- "Exchange two neighbouring calls on different channels: each call's answer and the whole station afterwards are unchanged": wherever the two stand, in
+  -- one block, at the edge of one, or in two blocks
   pub exchange : (later earlier : List Said) (x y : Said) (h : List Event) (st : Station) → (channelOf (x .call) ≡ channelOf (y .call) → ⊥)
       → RunsBy freshStation h st → saidIn h ≡ later ++ (x ∷ y ∷ earlier) → Exchanged later earlier x y st
   -- and however the calls are packed in blocks when they are made in the other order

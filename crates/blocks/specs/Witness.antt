@@ -1,5 +1,5 @@
--- A block handed to a station that is not fresh, computed from the definitions: two offers, a remark, a reset, an offer to a channel that there is not, and an
--- unknown tag with an offer behind it.
+-- A block handed to a station that is not fresh, computed from the definitions: two offers, a remark, a reset, an offer to a channel that there is not, and
+-- an unknown tag with an offer behind it.
 -- Assumes nothing.
 use Prim.Native.Nat.{ℕ}
 use mathlib.Core.List.{List, [], _∷_, _++_}
@@ -12,7 +12,7 @@ use Rattle.strings.specs.Calls.{soundTests}
 use Rattle.layout.specs.Layout.{layout}
 use Rattle.words.specs.Values.{valuesOf, firstBad}
 use Rattle.words.specs.Good.{isGood as goodWords}
-use Rattle.book.specs.Entry.{entryOf, blank, greater}
+use Rattle.book.specs.Entry.{entryOf, greater}
 use Rattle.book.specs.Shows.{dayOf, isShown, threeOf, shownBy}
 use Rattle.book.specs.Book.{emptyBook, joined as joinedBook, joinedShown}
 use Rattle.tallies.specs.Tallies.{oneMore}
@@ -34,9 +34,11 @@ before = stationAfter (stationAfter freshStation 3 100 one) 7 101 two
 abbrev offerBytes : ℕ → ℕ → List ℕ → List ℕ
 offerBytes channel epoch string = 1 ∷ 0 ∷ 16 ∷ channel ∷ 0 ∷ 0 ∷ 0 ∷ epoch ∷ string
 
--- string 2 on channel 3 at epoch 101; string 3 on channel 7 at epoch 103, off its beat; a remark of two bytes; a reset of channel 3; string 1 on channel 24; tag 9
+-- string 2 on channel 3 at epoch 101; string 3 on channel 7 at epoch 103, off its beat; a remark of two bytes; a reset of channel 3; string 1 on channel 24;
+-- tag 9
 abbrev pub block : List ℕ
-block = offerBytes 3 101 two ++ (offerBytes 7 103 three ++ (3 ∷ 0 ∷ 2 ∷ 1 ∷ 0 ∷ (2 ∷ 0 ∷ 1 ∷ 3 ∷ (offerBytes 24 5 one ++ (9 ∷ 0 ∷ 0 ∷ offerBytes 7 102 three)))))
+block =
+    offerBytes 3 101 two ++ (offerBytes 7 103 three ++ (3 ∷ 0 ∷ 2 ∷ 1 ∷ 0 ∷ (2 ∷ 0 ∷ 1 ∷ 3 ∷ (offerBytes 24 5 one ++ (9 ∷ 0 ∷ 0 ∷ offerBytes 7 102 three)))))
 
 pub record Witness : Type 0 where
   -- its calls, and where the work stops

@@ -5,7 +5,7 @@ use crate::Told;
 use crate::taking::take_field;
 use station::Station;
 ghost use mathlib.Core.Path.{_≡_};
-ghost use Rattle.blocks.specs.Handing.{endedBy, HandsOver};
+ghost use Rattle.blocks.specs.Handing.{isLast, endedBy, HandsOver};
 
 // Does the fields of a block in the order written, up to its end or to the first that is refused.
 pub fn hand_over(st: Station, block: &[u8]) -> Handed
@@ -16,8 +16,8 @@ pub fn hand_over(st: Station, block: &[u8]) -> Handed
     loop {
         let taken = take_field(next, block, at);
         next = taken.station;
-        if taken.after == at {
-            let told = taken.told;
+        let told = taken.told;
+        if is_last(told) {
             return Handed {
                 station: next,
                 ended: ended_by(told),
@@ -27,7 +27,19 @@ pub fn hand_over(st: Station, block: &[u8]) -> Handed
     }
 }
 
-// Where the reading does not move on, the block is at its end or the field is refused.
+// The end, and a field that is refused; no call is, whatever it was answered.
+fn is_last(told: Told) -> bool
+    ensures { λ r. ⌜ r ≡ isLast told ⌝ }
+{
+    match told {
+        Told::End => true,
+        Told::Offered(_) => false,
+        Told::Emptied(_) => false,
+        Told::Remark => false,
+        Told::Refused(_, _) => true,
+    }
+}
+
 fn ended_by(told: Told) -> Ended
     ensures { λ r. ⌜ r ≡ endedBy told ⌝ }
 {

@@ -1,3 +1,4 @@
+pub mod Channel
 pub mod Item
 pub mod Packed
 pub mod Parts

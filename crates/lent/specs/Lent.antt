@@ -1,19 +1,24 @@
 -- An offer to a station that is lent, and changed in its place (the paper, "Frames and the book" and "Numbers that say no"). For every station value.
 -- Assumes nothing.
 use Prim.Native.Nat.{ℕ}
-use mathlib.Core.List.{List}
+use mathlib.Core.List.{List, []}
 use mathlib.Core.Path.{_≡_}
 use Rattle.strings.specs.Numbers.{answerOf}
 use Rattle.book.specs.declared.Shown.{Shown}
 use Rattle.book.specs.Book.{joinedShown}
 use Rattle.station.specs.declared.Station.{Station}
-use Rattle.station.specs.Station.{stationTests, toldIn, stationAfter}
+use Rattle.station.specs.Station.{stationTests, channelTests, toldIn, stationAfter, stationReset}
 use Rattle.told.specs.Told.{packed}
 
 -- the station left in its place, and the answer in the paper's numbers, the first in the lowest byte
 pub record OffersLent (st : Station) (c epoch : ℕ) (s : List ℕ) (st′ : Station) (r : ℕ) : Type 0 where
   pub answer : r ≡ packed (answerOf (stationTests st c epoch s) (toldIn st c epoch s))
   pub station : st′ ≡ stationAfter st c epoch s
+
+-- "Reset: 1": in the same way
+pub record ResetsLent (st : Station) (c : ℕ) (st′ : Station) (r : ℕ) : Type 0 where
+  pub answer : r ≡ packed (answerOf (channelTests c) [])
+  pub station : st′ ≡ stationReset st c
 
 -- one thing that is shown, joined to the book; the rows as they were
 abbrev pub BringsOne : Station → Shown → Station → Type 0

@@ -60,10 +60,12 @@ returns : tie.Need-returns
 returns c = takes-end (c .before .before .before .next-at .ensures) (c .before .enum-told .given .1) (c .no-call .ensures)
 
 returns-2 : tie.Need-returns-2
-returns-2 c = takes-offer (c .before .before .before .before .before .next-at .ensures) _ (c .before .before .before .field .given .1) (c .offer-field .ensures)
+returns-2 c =
+    takes-offer (c .before .before .before .before .before .next-at .ensures) _ (c .before .before .before .field .given .1) (c .offer-field .ensures)
 
 returns-3 : tie.Need-returns-3
-returns-3 c = takes-reset (c .before .before .before .before .before .next-at .ensures) _ (c .before .before .before .field2 .given .1) (c .reset-field .ensures)
+returns-3 c =
+    takes-reset (c .before .before .before .before .before .next-at .ensures) _ (c .before .before .before .field2 .given .1) (c .reset-field .ensures)
 
 returns-4 : tie.Need-returns-4
 returns-4 c = takes-remark (c .before .before .before .next-at .ensures) (c .before .enum-told2 .given .1) (c .no-call2 .ensures)

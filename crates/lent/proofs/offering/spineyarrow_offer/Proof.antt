@@ -97,6 +97,7 @@ use Rattle.station.proofs.Station as ST
 use Rattle.station.proofs.Station.Laws as ST′
 use Rattle.told.specs.Told.{packed}
 use Rattle.lent.specs.Lent.{OffersLent, BringsOne}
+use Rattle.lent.proofs.Channel.{isPast, past, within}
 use Rattle.lent.proofs.Item.{lowly, map-set, item, either-way, lows-set, bytes-is, elem-is, low-is, low-typed, low-item}
 use Rattle.lent.proofs.Parts.{rowBytes, rowsVal, stationVal, rows-of, book-of, made-of}
 use Rattle.lent.proofs.Turns.{turns, upTo, all-turns, newly-in}
@@ -134,16 +135,6 @@ newlyOf p = newlyShown (isStored (p .answer)) (framed 0 (p .row .present) (p .ro
 
 lent-of : (st : Station) (c e : ℕ) (s : List ℕ) (st′ : Station) (a : Answer) (r : ℕ) → r ≡ packed (answerPaper a) → OffersTo st c e s (stepped st′ a) → OffersLent st c e s st′ r
 lent-of st c e s st′ a r er o = record { answer = er ∙ ap packed (o .answer); station = o .station }
-
--- the test, and what it says of the channel either way
-abbrev isPast : ℕ → Bool
-isPast c = ltb lastChannel c
-
-past : (c : ℕ) → T (isPast c) → lastChannel < c
-past c t = ltb→lt lastChannel c t
-
-within : (c : ℕ) → T (not (isPast c)) → c ≤ lastChannel
-within c n = nltb→le lastChannel c n
 
 refused-lent : (st : Station) (c e : ℕ) (s : List ℕ) → T (isPast c) → OffersLent st c e s st 1
 refused-lent st c e s t = lent-of st c e s st (Refused Channel) 1 refl (no-channel st c e s (past c t))
