@@ -1,5 +1,6 @@
 -- What a field that was found says of its block: at the end (end-there), refused (refused-there), or good, with its tag and the place of its body
--- (good-there); and so what it leads to on a station (takes-end, takes-refused, takes-remark, takes-offer, takes-reset).
+-- (good-there); so what it leads to on any station, its number and its calls (leads-end, leads-remark, leads-offer, leads-reset, says-refused), and that it
+-- is taken so (takes-end ..).
 -- Assumes nothing.
 use mathlib.Core.Path.{_≡_, refl, sym, ap, ap₂, subst, _∙_}
 use mathlib.Core.Bool.{Bool, true, false, not, _||_, true≢false}
@@ -176,15 +177,17 @@ makes-offer st body {c} {epoch} {after} {s} r p q w o =
       next = refl;
     }
 
+-- a field's number, which is 0 at the end of the block and else its tag, and the calls that it makes
+pub record Leads (block : List ℕ) (at told : ℕ) (made : List Call) : Type 0 where
+  pub says : (st : Station) → fieldSays st block at ≡ 0 ∷ told ∷ answerAmong st made
+  pub calls : callsAt block at ≡ made
+
 module _ {block : List ℕ} {at after : ℕ} {f : Field} (found : Finds block at f after) where
-  -- a call
-  takes-call : {st : Station} {r : Taken} (call : Call) → GoodAt block at (tagOf call) → callIn (drop at block) ≡ call ∷ [] → Makes st call after r
-      → Takes st block at r
-  takes-call {st} call g n m =
+  leads-good : {tag : ℕ} {made : List Call} → GoodAt block at tag → callIn (drop at block) ≡ made → Leads block at tag made
+  leads-good g n =
       record {
-        answer = m .answer ∙ sym (says-good block at g st ∙ ap₂ (λ (k : ℕ) (cs : List Call). 0 ∷ k ∷ answerAmong st cs) (g .its-tag) n);
-        station = m .station ∙ one-call st call (callsAt block at) (calls-good block at g ∙ n);
-        next = m .next ∙ found .next;
+        says = λ st. says-good block at g st ∙ ap₂ (λ (k : ℕ) (cs : List Call). 0 ∷ k ∷ answerAmong st cs) (g .its-tag) n;
+        calls = calls-good block at g ∙ n;
       }
 
   module _ (body : ℕ) where
@@ -193,7 +196,7 @@ module _ {block : List ℕ} {at after : ℕ} {f : Field} (found : Finds block at
       offer-there : GoodAt block at 1 × (body ∷ [] ≡ (at + 3) ∷ [])
       offer-there = good-there block at 0 (body ∷ []) (ap fieldPaper (sym e) ∙ found .answer)
 
-      offer-place : body ≡ at + 3
+      pub offer-place : body ≡ at + 3
       offer-place = ap (λ (l : List ℕ). getD l 0 0) (offer-there .1)
 
       pub offer-room : body + 16 ≤ length block
@@ -204,11 +207,12 @@ module _ {block : List ℕ} {at after : ℕ} {f : Field} (found : Finds block at
           let n : body + 16 - body ≡ lengthIn (drop at block) = omega (arith, sixteen block at (offer-there .0)) in
           ap₂ (λ (k j : ℕ). take k (drop j block)) n offer-place ∙ ap (take (lengthIn (drop at block))) (sym (drop-drop 3 at block))
 
-      pub takes-offer : {st : Station} {r : Taken} → Makes st (offerOf (take (body + 16 - body) (drop body block))) after r → Takes st block at r
+      pub leads-offer : Leads block at 1 (offerOf (take (body + 16 - body) (drop body block)) ∷ [])
       unfolding callIn
-      takes-offer {st} {r} m =
+      leads-offer =
           let g = offer-there .0 in
-          takes-call (offerOf (bodyIn (drop at block))) g (rw (g .its-tag)) (subst (λ (l : List ℕ). Makes st (offerOf l) after r) offer-body m)
+          let n : callIn (drop at block) ≡ offerOf (bodyIn (drop at block)) ∷ [] = rw (g .its-tag) in
+          leads-good g (n ∙ ap (λ (l : List ℕ). offerOf l ∷ []) (sym offer-body))
 
     -- a reset: its byte is there
     module _ (e : f ≡ ResetAt body) where
@@ -229,42 +233,64 @@ module _ {block : List ℕ} {at after : ℕ} {f : Field} (found : Finds block at
           ∙ ap (λ (l : List ℕ). getD l 0 0) (sym (drop-drop 3 at block))
           ∙ sym (getD-take (lengthIn (drop at block)) (drop 3 (drop at block)) 0 0 n)
 
-      pub takes-reset : {st : Station} {r : Taken} → Makes st (Reset (getD block body 0)) after r → Takes st block at r
+      pub leads-reset : Leads block at 2 (Reset (getD block body 0) ∷ [])
       unfolding callIn
-      takes-reset {st} {r} m =
+      leads-reset =
           let g = reset-there .0 in
-          takes-call (Reset (channelIn (bodyIn (drop at block)))) g (rw (g .its-tag)) (subst (λ (c : ℕ). Makes st (Reset c) after r) reset-byte m)
+          let n : callIn (drop at block) ≡ Reset (channelIn (bodyIn (drop at block))) ∷ [] = rw (g .its-tag) in
+          leads-good g (n ∙ ap (λ (c : ℕ). Reset c ∷ []) (sym reset-byte))
 
   -- no call: the end, a remark, and a field that is refused
-  module _ {st : Station} {r : Taken} where
-    pub takes-end : f ≡ End → Left st Ends after r → Takes st block at r
+  pub leads-end : f ≡ End → Leads block at 0 []
+  unfolding fieldSays
+  leads-end e =
+      let h = end-there block at (ap fieldPaper (sym e) ∙ found .answer) in
+      record {
+        says = λ st. rw (le-leb (length block) at h);
+        calls = none-where block at (ap isGood (drop-of-length-le block h) ∙ none-empty);
+      }
+
+  pub leads-remark : f ≡ Remark → Leads block at 3 []
+  unfolding callIn
+  leads-remark e =
+      let g = good-there block at 2 [] (ap fieldPaper (sym e) ∙ found .answer) .0 in
+      leads-good g (rw (g .its-tag))
+
+  module _ (why : Why) (place : ℕ) (e : f ≡ Refused why place) where
+    pub says-refused : (st : Station) → fieldSays st block at ≡ whyNumber why ∷ place ∷ []
     unfolding fieldSays
-    takes-end e l =
-        let h = end-there block at (ap fieldPaper (sym e) ∙ found .answer) in
+    says-refused st =
+        let told = tagIn (drop at block) ∷ answerAmong st (callIn (drop at block)) in
+        sym (refused-there block at why (place ∷ []) told (ap fieldPaper (sym e) ∙ found .answer) .0)
+
+    pub none-refused : callsAt block at ≡ []
+    none-refused = none-where block at (refused-there block at why (place ∷ []) [] (ap fieldPaper (sym e) ∙ found .answer) .1)
+
+  -- so a field is taken
+  module _ {st : Station} {r : Taken} where
+    takes-call : {call : Call} → Leads block at (tagOf call) (call ∷ []) → Makes st call after r → Takes st block at r
+    takes-call {call} l m =
         record {
-          answer = ap toldPaper (l .1 .0) ∙ rw (le-leb (length block) at h);
-          station = l .0 ∙ no-calls st (callsAt block at) (none-where block at (ap isGood (drop-of-length-le block h) ∙ none-empty));
-          next = l .1 .1 ∙ found .next;
+          answer = m .answer ∙ sym (l .says st);
+          station = m .station ∙ one-call st call (callsAt block at) (l .calls);
+          next = m .next ∙ found .next;
         }
 
-    pub takes-refused : (why : Why) (place : ℕ) → f ≡ Refused why place → Left st (Refuses why place) after r → Takes st block at r
-    unfolding fieldSays
-    takes-refused why place e l =
-        let l′ = tagIn (drop at block) ∷ answerAmong st (callIn (drop at block)) in
-        let q = refused-there block at why (place ∷ []) l′ (ap fieldPaper (sym e) ∙ found .answer) in
-        record {
-          answer = ap toldPaper (l .1 .0) ∙ q .0;
-          station = l .0 ∙ no-calls st (callsAt block at) (none-where block at (q .1));
-          next = l .1 .1 ∙ found .next;
-        }
+    takes-none : {told : Told} → callsAt block at ≡ [] → toldPaper told ≡ fieldSays st block at → Left st told after r → Takes st block at r
+    takes-none n e l =
+        record { answer = ap toldPaper (l .1 .0) ∙ e; station = l .0 ∙ no-calls st (callsAt block at) n; next = l .1 .1 ∙ found .next }
+
+    pub takes-offer : (body : ℕ) → f ≡ OfferAt body → Makes st (offerOf (take (body + 16 - body) (drop body block))) after r → Takes st block at r
+    takes-offer body e = takes-call (leads-offer body e)
+
+    pub takes-reset : (body : ℕ) → f ≡ ResetAt body → Makes st (Reset (getD block body 0)) after r → Takes st block at r
+    takes-reset body e = takes-call (leads-reset body e)
+
+    pub takes-end : f ≡ End → Left st Ends after r → Takes st block at r
+    takes-end e = let l = leads-end e in takes-none (l .calls) (sym (l .says st))
 
     pub takes-remark : f ≡ Remark → Left st Remarks after r → Takes st block at r
-    unfolding callIn
-    takes-remark e l =
-        let g = good-there block at 2 [] (ap fieldPaper (sym e) ∙ found .answer) .0 in
-        let n : callIn (drop at block) ≡ [] = rw (g .its-tag) in
-        record {
-          answer = ap toldPaper (l .1 .0) ∙ sym (says-good block at g st ∙ ap₂ (λ (k : ℕ) (cs : List Call). 0 ∷ k ∷ answerAmong st cs) (g .its-tag) n);
-          station = l .0 ∙ no-calls st (callsAt block at) (calls-good block at g ∙ n);
-          next = l .1 .1 ∙ found .next;
-        }
+    takes-remark e = let l = leads-remark e in takes-none (l .calls) (sym (l .says st))
+
+    pub takes-refused : (why : Why) (place : ℕ) → f ≡ Refused why place → Left st (Refuses why place) after r → Takes st block at r
+    takes-refused why place e = takes-none (none-refused why place e) (sym (says-refused why place e st))

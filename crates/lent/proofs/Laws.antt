@@ -1,8 +1,9 @@
--- The laws of a lent offer (laws). The numbers of an offer's answer are bytes (answer-bytes); and it is read back from the one number, byte by byte
--- (paper-read).
+-- The laws of a lent offer and a lent reset (laws). The numbers of an offer's answer are bytes (answer-bytes), and six of them at most (answer-small); and it
+-- is read back from the one number, byte by byte (paper-read).
 -- Assumes nothing.
 use Prim.Native.Nat.{ℕ, zero, suc, _<_, _≤_, _/_, _%_, _*_, _^_}
 use native.Mathlib.Omega.{arith}
+use mathlib.Core.Bool.{Bool, true, false}
 use mathlib.Core.List.{List, [], _∷_, _++_}
 use mathlib.Core.Path.{_≡_, refl, sym, ap, subst, _∙_}
 use lib.Dec.{eqb, ltb, ltb→lt}
@@ -19,7 +20,7 @@ use Rattle.strings.specs.Hamming.{NamesBit, ruling}
 use Rattle.strings.specs.Number.{bitOf, numberOf}
 use Rattle.strings.proofs.Digits.{bit-lt}
 use Rattle.relative.specs.Polarity.{firstSymbol}
-use Rattle.strings.specs.Numbers.{refusalPaper, Test, firstOf, placeOf, saidBy, answerOf}
+use Rattle.strings.specs.Numbers.{refusalPaper, Test, test, firstOf, placeOf, saidBy, answerOf}
 use Rattle.strings.specs.Calls.{soundTests}
 use Rattle.strings.proofs.Judge.{names-bit}
 use Rattle.strings.proofs.Tests.{first-of, no-place}
@@ -35,13 +36,14 @@ use Rattle.channel.proofs.Frames.{number-small}
 use Rattle.hearing.specs.Hears.{plainOf, wholeOf, verdictOf}
 use Rattle.station.specs.declared.Station.{Station}
 use Rattle.station.specs.declared.Stepped.{Stepped}
-use Rattle.station.specs.Station.{heldAt, stationTests, toldIn, stationAfter, OffersTo}
-use Rattle.station.specs.History.{Call, Offer, Runs, offering}
-use Rattle.station.proofs.EveryHistory.{some-answer}
+use Rattle.station.specs.declared.Emptied.{Emptied}
+use Rattle.station.specs.Station.{heldAt, isNoChannel, stationTests, toldIn, stationAfter, OffersTo, stationReset}
+use Rattle.station.specs.History.{Call, Offer, Reset, Runs, offering, resetting}
+use Rattle.station.proofs.EveryHistory.{some-answer, offer-answers, reset-answer, reset-answers}
 use Rattle.told.specs.Told.{packed, AreBytes}
 use Rattle.told.proofs.ReadBack.{read-back}
-use Rattle.lent.specs.Lent.{OffersLent}
-use Rattle.lent.specs.Laws.{AsOffered, ToldAs, Laws}
+use Rattle.lent.specs.Lent.{OffersLent, ResetsLent}
+use Rattle.lent.specs.Laws.{AsOffered, AsReset, ToldAs, Laws}
 
 -- ---- bytes, one after another
 none-left : AreBytes []
@@ -75,6 +77,18 @@ said-bytes : (k : ℕ) (place told : List ℕ) → k < 256 → place ≡ [] → 
 said-bytes zero place told l e h = h
 said-bytes (suc k) place told l e h = before (suc k) place l (subst AreBytes (sym e) none-left)
 
+said-small : (k : ℕ) (place told : List ℕ) → k < 256 → place ≡ [] → packed (0 ∷ told) < 2 ^ 48 → packed (saidBy k place told) < 2 ^ 48
+said-small zero place told l e h = h
+said-small (suc k) place told l e h = let z : packed place ≡ 0 = ap packed e in omega (arith, l, z)
+
+-- six numbers that are bytes, in one
+six-small : (m k i n p : ℕ) → AreBytes (0 ∷ m ∷ k ∷ i ∷ n ∷ p ∷ []) → packed (0 ∷ m ∷ k ∷ i ∷ n ∷ p ∷ []) < 2 ^ 48
+six-small m k i n p h = omega (arith, h 1, h 2, h 3, h 4, h 5)
+
+taken-small : (m : ℕ) (v : Verdict) (w : News) (x : ℕ) → AreBytes (0 ∷ (toldAs m v w ++ (firstSymbol x ∷ []))) → packed (0 ∷ (toldAs m v w ++ (firstSymbol x ∷ []))) < 2 ^ 48
+taken-small m Clean w x h = six-small m 0 0 (newsNumber w) (firstSymbol x) h
+taken-small m (Repaired i) w x h = six-small m 1 i (newsNumber w) (firstSymbol x) h
+
 names-one : (n : ℕ) → NamesBit (verdictOf (ruling n))
 names-one n = by (ruling n) refl
   where
@@ -94,11 +108,19 @@ module _ (st : Station) (c epoch : ℕ) (s : List ℕ) where
   unfolding soundTests
   placed-nowhere = no-place tests tt
 
-  answer-bytes : AreBytes (answerOf tests (toldIn st c epoch s))
-  answer-bytes =
+  told-is-bytes : AreBytes (0 ∷ toldIn st c epoch s)
+  told-is-bytes =
       let n = wholeOf s in
-      said-bytes (firstOf tests) (placeOf tests) (toldIn st c epoch s) small placed-nowhere
-      (taken-bytes (numberIn n) (verdictOf (ruling (plainOf s))) (newsOf (heldAt st c) epoch n) (numberOf s) (number-small n) (names-one (plainOf s)))
+      taken-bytes (numberIn n) (verdictOf (ruling (plainOf s))) (newsOf (heldAt st c) epoch n) (numberOf s) (number-small n) (names-one (plainOf s))
+
+  answer-bytes : AreBytes (answerOf tests (toldIn st c epoch s))
+  answer-bytes = said-bytes (firstOf tests) (placeOf tests) (toldIn st c epoch s) small placed-nowhere told-is-bytes
+
+  answer-small : packed (answerOf tests (toldIn st c epoch s)) < 2 ^ 48
+  answer-small =
+      let n = wholeOf s in
+      said-small (firstOf tests) (placeOf tests) (toldIn st c epoch s) small placed-nowhere
+      (taken-small (numberIn n) (verdictOf (ruling (plainOf s))) (newsOf (heldAt st c) epoch n) (numberOf s) told-is-bytes)
 
 -- ---- the offer that a lent one is
 module _ (st : Station) (c epoch : ℕ) (s : List ℕ) where
@@ -106,7 +128,7 @@ module _ (st : Station) (c epoch : ℕ) (s : List ℕ) where
   step = record { station = stationAfter st c epoch s; answer = some-answer st c epoch s .answer }
 
   offered : OffersTo st c epoch s step
-  offered = record { answer = some-answer st c epoch s .is; station = refl }
+  offered = offer-answers st c epoch s
 
   module _ (st′ : Station) (r : ℕ) where
     to-offer : OffersLent st c epoch s st′ r → AsOffered st c epoch s st′ r
@@ -118,8 +140,33 @@ module _ (st : Station) (c epoch : ℕ) (s : List ℕ) where
     runs-on : (cs : List Call) → Runs cs st → OffersLent st c epoch s st′ r → Runs (Offer c epoch s ∷ cs) st′
     runs-on cs run o = subst (Runs (Offer c epoch s ∷ cs)) (sym (o .station)) (offering c epoch s cs st step run offered)
 
+    six-hold : OffersLent st c epoch s st′ r → r < 2 ^ 48
+    six-hold o = subst (λ (k : ℕ). k < 2 ^ 48) (sym (o .answer)) (answer-small st c epoch s)
+
   bytes : (r : Stepped) → OffersTo st c epoch s r → AreBytes (answerPaper (r .answer))
   bytes r o = subst AreBytes (sym (o .answer)) (answer-bytes st c epoch s)
+
+-- ---- the reset that a lent one is
+module _ (st : Station) (c : ℕ) where
+  abbrev emptied : Emptied
+  emptied = record { station = stationReset st c; answer = reset-answer c }
+
+  module _ (st′ : Station) (r : ℕ) where
+    to-reset : ResetsLent st c st′ r → AsReset st c st′ r
+    to-reset o = let e = reset-answers st c in record { step = emptied; resets = e; answer = o .answer ∙ ap packed (sym (e .answer)); station = o .station }
+
+    from-reset : AsReset st c st′ r → ResetsLent st c st′ r
+    from-reset o = record { answer = o .answer ∙ ap packed (o .resets .answer); station = o .station ∙ o .resets .station }
+
+    resets-on : (cs : List Call) → Runs cs st → ResetsLent st c st′ r → Runs (Reset c ∷ cs) st′
+    resets-on cs run o = subst (Runs (Reset c ∷ cs)) (sym (o .station)) (resetting c cs st emptied run (reset-answers st c))
+
+    bit-holds : ResetsLent st c st′ r → r < 2
+    bit-holds o = subst (λ (k : ℕ). k < 2) (sym (o .answer)) (by (isNoChannel c))
+      where
+        by : (b : Bool) → packed (answerOf (test 1 b ∷ []) []) < 2
+        by true = omega arith
+        by false = omega arith
 
 -- ---- an answer read back: five numbers after the 0, two where the first is 10, and else the first alone
 abbrev six : List ℕ → List ℕ
@@ -180,7 +227,11 @@ laws =
     record {
       as-offered = λ st c epoch s st′ r. (to-offer st c epoch s st′ r, from-offer st c epoch s st′ r);
       runs = λ cs st c epoch s st′ r. runs-on st c epoch s st′ r cs;
+      as-reset = λ st c st′ r. (to-reset st c st′ r, from-reset st c st′ r);
+      runs-reset = λ cs st c st′ r. resets-on st c st′ r cs;
       told-once = λ a b n t u. apart a b (told-bytes t) (told-bytes u) (sym (told-number t) ∙ told-number u);
       in-bytes = bytes;
       told-apart = apart;
+      six-bytes = six-hold;
+      one-bit = bit-holds;
     }

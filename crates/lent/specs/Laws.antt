@@ -1,24 +1,32 @@
--- What holds of every lent offer, whatever the station and the bytes: it is the station's own offer, a step of its history, and its one number
--- tells the answer. Proved as `laws` in `proofs/Laws.antt`.
+-- What holds of every offer to a lent station and of every reset, whatever the station and the bytes: it is the station's own, a step of its history, and its
+-- one number tells the answer. Proved as `laws` in `proofs/Laws.antt`.
 -- Assumes nothing.
-use Prim.Native.Nat.{ℕ}
+use Prim.Native.Nat.{ℕ, _^_, _<_}
 use mathlib.Core.List.{List, _∷_}
 use mathlib.Core.Logic.{_↔_}
 use mathlib.Core.Path.{_≡_}
+use Rattle.strings.specs.Calls.{writtenPaper}
 use Rattle.channel.specs.declared.Answer.{Answer}
 use Rattle.channel.specs.Offers.{answerPaper}
 use Rattle.station.specs.declared.Station.{Station}
 use Rattle.station.specs.declared.Stepped.{Stepped}
-use Rattle.station.specs.Station.{OffersTo}
-use Rattle.station.specs.History.{Call, Offer, Runs}
+use Rattle.station.specs.declared.Emptied.{Emptied}
+use Rattle.station.specs.Station.{OffersTo, Resets}
+use Rattle.station.specs.History.{Call, Offer, Reset, Runs}
 use Rattle.told.specs.Told.{packed, AreBytes}
-use Rattle.lent.specs.Lent.{OffersLent}
+use Rattle.lent.specs.Lent.{OffersLent, ResetsLent}
 
 -- a step of a station: its answer in one number, and the station after it in the place of the one before
 pub record AsOffered (st : Station) (c epoch : ℕ) (s : List ℕ) (st′ : Station) (r : ℕ) : Type 0 where
   pub step : Stepped
   pub offers : OffersTo st c epoch s step
   pub answer : r ≡ packed (answerPaper (step .answer))
+  pub station : st′ ≡ step .station
+
+pub record AsReset (st : Station) (c : ℕ) (st′ : Station) (r : ℕ) : Type 0 where
+  pub step : Emptied
+  pub resets : Resets st c step
+  pub answer : r ≡ packed (writtenPaper (step .answer))
   pub station : st′ ≡ step .station
 
 -- an answer of an offer, and the number that the host gets where the station was lent
@@ -39,9 +47,15 @@ pub record Laws : Type 0 where
   -- so it is a step of a history, and what is proved of a station is proved of the lent one
   pub runs : (cs : List Call) (st : Station) (c epoch : ℕ) (s : List ℕ) (st′ : Station) (r : ℕ) → Runs cs st → OffersLent st c epoch s st′ r
       → Runs (Offer c epoch s ∷ cs) st′
+  -- and so with a reset
+  pub as-reset : (st : Station) (c : ℕ) (st′ : Station) (r : ℕ) → ResetsLent st c st′ r ↔ AsReset st c st′ r
+  pub runs-reset : (cs : List Call) (st : Station) (c : ℕ) (st′ : Station) (r : ℕ) → Runs cs st → ResetsLent st c st′ r → Runs (Reset c ∷ cs) st′
   -- the number tells the answer: no two answers of offers, to whatever stations, have the same
   pub told-once : (a b : Answer) (n : ℕ) → ToldAs a n → ToldAs b n → a ≡ b
   -- for the numbers of an offer's answer fit in a byte each
   pub in-bytes : (st : Station) (c epoch : ℕ) (s : List ℕ) (r : Stepped) → OffersTo st c epoch s r → AreBytes (answerPaper (r .answer))
   -- and no two answers whose numbers do are packed alike
   pub told-apart : (a b : Answer) → AreBytes (answerPaper a) → AreBytes (answerPaper b) → packed (answerPaper a) ≡ packed (answerPaper b) → a ≡ b
+  -- six bytes hold what an offer tells, and the lowest bit what a reset does
+  pub six-bytes : (st : Station) (c epoch : ℕ) (s : List ℕ) (st′ : Station) (r : ℕ) → OffersLent st c epoch s st′ r → r < 2 ^ 48
+  pub one-bit : (st : Station) (c : ℕ) (st′ : Station) (r : ℕ) → ResetsLent st c st′ r → r < 2
