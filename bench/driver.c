@@ -12,11 +12,14 @@ extern told measured_check(const u8 *s, usize n, u8 *out, usize room);
 extern told measured_read(const u8 *s, usize n, u8 kind, int *words);
 extern told measured_write(u8 m, u8 kind, const int *words, u8 *out, usize room);
 extern u8 measured_offers(const u8 *records, usize n);
+extern u8 measured_block(const u8 *block, usize n);
 extern told spineyarrow_offer(void *station, u8 channel, unsigned epoch, const u8 *s, usize n);
+extern told spineyarrow_field(void *station, const u8 *block, usize n, usize at);
+extern usize spineyarrow_next(const u8 *block, usize n, usize at);
 
-enum { STRINGS = 75, CHANNELS = 4, RECORD = 16, KINDS = 8 };
+enum { STRINGS = 75, CHANNELS = 4, RECORD = 16, FIELD = 3 + RECORD, KINDS = 8 };
 static u8 sent[STRINGS][11], plain[STRINGS][11], wrong1[STRINGS][11], wrong2[STRINGS][11], out[11];
-static u8 number[STRINGS], kind[STRINGS], records[STRINGS * CHANNELS * RECORD];
+static u8 number[STRINGS], kind[STRINGS], records[STRINGS * CHANNELS * RECORD], block[STRINGS * CHANNELS * FIELD];
 static int words[STRINGS][8], read[8], of_kind[KINDS + 1][STRINGS], many[KINDS + 1], now;
 /* a station lent to the library: 24 rows of 228 bytes and 24 entries of 24; all zero is fresh */
 #ifndef ROW
@@ -33,6 +36,8 @@ static void reads(int i) { int j = of_kind[now][i]; rig_sink = measured_read(pla
 static void writes(int i) { int j = of_kind[now][i]; rig_sink = measured_write(number[j], kind[j], words[j], out, 11); }
 static void fresh(int i) { rig_sink = measured_offers(records, 0); }
 static void by_value(int i) { rig_sink = measured_offers(records, sizeof records); }
+static void by_value_block(int i) { rig_sink = measured_block(block, sizeof block); }
+static u8 byte_told(told a) { return a & 255 ? a & 255 : a >> 8 & 255; }
 static void lent(int i) {
     u8 said = 0;
     int k;
@@ -40,8 +45,19 @@ static void lent(int i) {
     for (k = 0; k < STRINGS * CHANNELS; k++) {
         const u8 *r = records + RECORD * k;
         unsigned epoch = (unsigned)r[1] << 24 | r[2] << 16 | r[3] << 8 | r[4];
-        told a = spineyarrow_offer(&station, r[0], epoch, r + 5, 11);
-        said ^= a & 255 ? a & 255 : a >> 8 & 255;
+        said ^= byte_told(spineyarrow_offer(&station, r[0], epoch, r + 5, 11));
+    }
+    rig_sink = said ^ station.book[0][18];
+}
+static void lent_block(int i) {
+    u8 said = 0;
+    usize at = 0, next;
+    memset(&station, 0, sizeof station);
+    for (;; at = next) {
+        told a = spineyarrow_field(&station, block, sizeof block, at);
+        next = spineyarrow_next(block, sizeof block, at);
+        if (next == at) break;
+        said ^= byte_told(a >> 8);
     }
     rig_sink = said ^ station.book[0][18];
 }
@@ -59,8 +75,11 @@ static void take(int n, const u8 *r) {
     measured_read(plain[n], 11, kind[n], words[n]);
     of_kind[kind[n]][many[kind[n]]++] = n;
     for (c = 0; c < CHANNELS; c++) {
-        memcpy(records + RECORD * (n * CHANNELS + c), r, RECORD);
-        records[RECORD * (n * CHANNELS + c)] = c;
+        u8 *record = records + RECORD * (n * CHANNELS + c), *field = block + FIELD * (n * CHANNELS + c);
+        memcpy(record, r, RECORD);
+        record[0] = c;
+        field[0] = 1, field[1] = 0, field[2] = RECORD;
+        memcpy(field + 3, record, RECORD);
     }
 }
 
@@ -81,5 +100,9 @@ int main(void) {
     i = rig_sink;
     rig_run("lent", lent, 1);
     if (i != (int)rig_sink) printf("DIFFERENT 0\n");
+    rig_run("lent-block", lent_block, 1);
+    if (i != (int)rig_sink) printf("DIFFERENT 0\n");
+    rig_run("by-value-block", by_value_block, 1);
+    if (station.book[0][18] != (u8)rig_sink) printf("DIFFERENT 0\n");
     return 0;
 }

@@ -18,11 +18,13 @@ for label in x86:
     name, _, which = label.replace("-", " ").partition(", ")
     if name in ("read", "encode"):
         which = KINDS[int(which) - 1]
-    if name in ("fresh", "by value", "lent"):
+    if name in ("fresh", "by value", "lent", "by value block", "lent block"):
         continue
     row(f"{name}, {which}" if which else name, x86[label], m0[label])
 row("an offer, station lent", x86["lent"], m0["lent"], share=STRINGS)
+row("an offer in a block, station lent", x86["lent-block"], m0["lent-block"], share=STRINGS)
 row("an offer, station by value", x86["by-value"], m0["by-value"], x86["fresh"], m0["fresh"], STRINGS)
+row("an offer in a block, station by value", x86["by-value-block"], m0["by-value-block"], x86["fresh"], m0["fresh"], STRINGS)
 STATION = 24 * 228 + 24 * 24
 print(f"\nMemory of a program with one station on the M0, bytes: lent {STATION + m0['lent'][2]:,}"
-      f" ({STATION:,} resident and {m0['lent'][2]:,} of stack), by value {m0['by-value'][2]:,} of stack")
+      f" ({STATION:,} resident and {m0['lent'][2]:,} of stack), in blocks {STATION + m0['lent-block'][2]:,}, by value {m0['by-value'][2]:,} of stack")

@@ -2,6 +2,7 @@
 -- Assumes nothing.
 use mathlib.Core.Bool.{Bool, not}
 use Prim.Native.Nat.{ℕ, _<_, _≤_}
+use native.Mathlib.Omega.{arith}
 use lib.Dec.{T, ltb, ltb→lt, nltb→le}
 use Rattle.station.specs.Station.{lastChannel}
 
@@ -9,7 +10,7 @@ abbrev pub isPast : ℕ → Bool
 isPast c = ltb lastChannel c
 
 pub past : (c : ℕ) → T (isPast c) → lastChannel < c
-past c t = ltb→lt lastChannel c t
+past c t = omega (arith, ltb→lt lastChannel c t)
 
 pub within : (c : ℕ) → T (not (isPast c)) → c ≤ lastChannel
-within c n = nltb→le lastChannel c n
+within c n = omega (arith, nltb→le lastChannel c n)

@@ -1,2 +1,3 @@
-pub mod Asking
 pub mod Taking
+pub mod Asking
+pub mod Laws

@@ -7,4 +7,5 @@ pub use parts::measured_check;
 pub use parts::measured_read;
 pub use parts::measured_relative;
 pub use parts::measured_write;
+pub use whole::measured_block;
 pub use whole::measured_offers;
