@@ -2,7 +2,7 @@
 -- (good-there); so what it leads to on any station, its number and its calls (leads-end, leads-remark, leads-offer, leads-reset, says-refused), and that it
 -- is taken so (takes-end ..).
 -- Assumes nothing.
-use mathlib.Core.Path.{_≡_, refl, sym, ap, ap₂, subst, _∙_}
+use mathlib.Core.Path.{_≡_, refl, sym, ap, ap₂, _∙_}
 use mathlib.Core.Bool.{Bool, true, false, not, _||_, true≢false}
 use mathlib.Core.List.{List, [], _∷_}
 use Prim.Native.Nat.{ℕ, suc, _+_, _-_, _≤_, _<_}

@@ -2,10 +2,8 @@
 -- Assumes nothing.
 use Prim.Native.Nat.{ℕ, _+_, _-_, _≤_}
 use native.Mathlib.Omega.{arith}
-use mathlib.Core.Bool.{false}
 use mathlib.Core.List.{List, [], _∷_}
-use mathlib.Core.Path.{_≡_, refl, sym, ap, ap₂, subst, _∙_}
-use lib.Dec.{eqb}
+use mathlib.Core.Path.{_≡_, refl, sym, ap, ap₂, _∙_}
 use lib.ListN.{length, getD, take, drop}
 use Rattle.fields.specs.declared.Why.{Why}
 use Rattle.fields.specs.declared.Why.the-variants.{Tag, Length, Cut}
@@ -13,9 +11,8 @@ use Rattle.fields.specs.declared.Field.{Field}
 use Rattle.fields.specs.declared.Field.the-variants.{End, Offer as OfferAt, Reset as ResetAt, Remark, Refused}
 use Rattle.fields.specs.Sixteen.{channelIn, epochIn, symbolsIn}
 use Rattle.fields.specs.Fields.{whyNumber, Finds}
-use Rattle.fields.specs.Block.{Call, Offer, Reset, offerOf}
-use Rattle.station.specs.declared.Station.{Station}
-use Rattle.blocks.specs.Taking.{answerAmong, fieldSays, callsAt}
+use Rattle.fields.specs.Block.{Call, Reset, offerOf}
+use Rattle.blocks.specs.Taking.{answerAmong}
 use Rattle.blocks.proofs.Found.{Leads, offer-place, offer-room, leads-offer, leads-reset, leads-end, leads-remark, says-refused, none-refused}
 use Rattle.lent_blocks.specs.declared.asking.Asked.{Asked}
 use Rattle.lent_blocks.specs.Taking.{numbersIn}

@@ -1,5 +1,5 @@
 -- `whole::measured_block` meets its contract: the block is handed to a fresh station. Assumes nothing.
-use mathlib.Core.Path.{_≡_, ap, _∙_}
+use mathlib.Core.Path.{ap, _∙_}
 use borrow.Author.Needs.{needs}
 use Rattle.book.specs.Book.{inSlot}
 use Rattle.station.specs.declared.Station.{Station}
