@@ -1,4 +1,4 @@
--- What a fresh station that is offered the records of an input, or handed a block, answers in one byte.
+-- What a fresh station that is offered the records of an input answers in one byte.
 -- Assumes nothing.
 use Prim.Native.Nat.{ℕ, zero, suc, _*_, _/_}
 use mathlib.Core.List.{List, [], _∷_}
@@ -9,10 +9,7 @@ use lib.ListN.{length, getD, take, drop}
 use Rattle.strings.specs.Pick.{pick}
 use Rattle.book.specs.Book.{inSlot}
 use Rattle.fields.specs.Sixteen.{channelIn, epochIn, symbolsIn}
-use Rattle.fields.specs.Block.{callsIn as callsOf}
-use Rattle.station.specs.Station.{freshStation}
 use Rattle.station.specs.History.{Call, Offer, saidAfter, stationOf}
-use Rattle.blocks.specs.Taking.{afterCalls}
 
 -- ---- record k of an input, counted from 0, as a call; and the first k of them, the latest first
 abbrev pub callAt : List ℕ → ℕ → Call
@@ -36,7 +33,3 @@ abbrev pub SumsUp : List ℕ → ℕ → Type 0
 SumsUp input r =
     let count = length input / 16 in
     r ≡ bitXor (sumOf input count) (inSlot (stationOf (callsIn input count) .book) 1 .etop)
-
--- ---- of a block this byte alone
-abbrev pub TellsBlock : List ℕ → ℕ → Type 0
-TellsBlock block r = r ≡ inSlot (afterCalls freshStation (callsOf block) .book) 1 .etop

@@ -7,5 +7,5 @@ pub use parts::measured_check;
 pub use parts::measured_read;
 pub use parts::measured_relative;
 pub use parts::measured_write;
-pub use whole::measured_block;
 pub use whole::measured_offers;
+pub use whole::top_of_slot_1;

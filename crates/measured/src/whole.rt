@@ -11,7 +11,7 @@ ghost use Rattle.book.specs.Book.{inSlot};
 ghost use Rattle.channel.specs.Offers.{answerPaper};
 ghost use Rattle.fields.specs.Sixteen.{channelIn, epochIn, symbolsIn};
 ghost use Rattle.station.specs.Station.{OffersTo};
-ghost use Rattle.measured.specs.Whole.{byteOf, SumsUp, TellsBlock};
+ghost use Rattle.measured.specs.Whole.{byteOf, SumsUp};
 
 // Offers the records of an input, sixteen bytes each, to a fresh station, and adds up what they are
 // told and a byte of its book.
@@ -31,16 +31,6 @@ pub extern "C" fn measured_offers(input: &[u8]) -> u8
     sum ^ top_of_slot_1(st)
 }
 
-// Hands a block to a fresh station, and answers that byte of its book.
-#[no_mangle]
-pub extern "C" fn measured_block(block: &[u8]) -> u8
-    ensures { λ r. ⌜ TellsBlock (now (block .entry)) r ⌝ }
-{
-    let handed = blocks::hand_over(station::fresh(), block);
-    let st = handed.station;
-    top_of_slot_1(st)
-}
-
 fn offer_record(st: Station, rec: &[u8]) -> Stepped
     requires { ⌜ length (now rec) ≡ 16 ⌝ }
     ensures { λ r. ⌜ OffersTo st (channelIn (now (rec .entry))) (epochIn (now (rec .entry))) (symbolsIn (now (rec .entry))) r ⌝ }
@@ -57,7 +47,8 @@ fn byte_told(a: Answer) -> u8
     }
 }
 
-fn top_of_slot_1(st: Station) -> u8
+// The highest byte of the even half of slot 1.
+pub fn top_of_slot_1(st: Station) -> u8
     ensures { λ r. ⌜ r ≡ inSlot (st .book) 1 .etop ⌝ }
 {
     let book = st.book;

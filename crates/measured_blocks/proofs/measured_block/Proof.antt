@@ -1,12 +1,12 @@
--- `whole::measured_block` meets its contract: the block is handed to a fresh station. Assumes nothing.
+-- `measured_block` meets its contract: the block is handed to a fresh station. Assumes nothing.
 use mathlib.Core.Path.{ap, _∙_}
 use borrow.Author.Needs.{needs}
 use Rattle.book.specs.Book.{inSlot}
 use Rattle.station.specs.declared.Station.{Station}
 use Rattle.fields.specs.Block.{callsIn}
 use Rattle.blocks.specs.Taking.{afterCalls}
-use Rattle.measured.proofs.whole.measured_block.Statement.{statement}
-use Rattle.measured.proofs.whole.measured_block.Tie as tie
+use Rattle.measured_blocks.proofs.measured_block.Statement.{statement}
+use Rattle.measured_blocks.proofs.measured_block.Tie as tie
 
 fresh-requires : tie.Need-fresh-requires
 fresh-requires c κs = search needs
