@@ -1,0 +1,3 @@
+pub mod Passed
+pub mod Means
+pub mod EmptyBook
