@@ -21,11 +21,11 @@ enum { STRINGS = 75, CHANNELS = 4, RECORD = 16, FIELD = 3 + RECORD, KINDS = 8 };
 static u8 sent[STRINGS][11], plain[STRINGS][11], wrong1[STRINGS][11], wrong2[STRINGS][11], out[11];
 static u8 number[STRINGS], kind[STRINGS], records[STRINGS * CHANNELS * RECORD], block[STRINGS * CHANNELS * FIELD];
 static int words[STRINGS][8], read[8], of_kind[KINDS + 1][STRINGS], many[KINDS + 1], now;
-/* a station lent to the library: 24 rows of 228 bytes and 24 entries of 24; all zero is fresh */
+/* a station lent to the library: 24 rows of 228 bytes, 24 entries of 24, and their summary; all zero is fresh */
 #ifndef ROW
 #define ROW 228
 #endif
-static struct { u8 rows[24][ROW], book[24][24]; } __attribute__((aligned(8))) station;
+static struct { u8 rows[24][ROW], book[24][24], summary[16]; } __attribute__((aligned(8))) station;
 
 static void turn(u8 *s, int bit) { s[(85 - bit) / 8] ^= 1 << ((bit + 2) % 8); }
 static void relative(int i) { rig_sink = measured_relative(sent[i], 11, out, 11); }

@@ -25,6 +25,6 @@ row("an offer, station lent", x86["lent"], m0["lent"], share=STRINGS)
 row("an offer in a block, station lent", x86["lent-block"], m0["lent-block"], share=STRINGS)
 row("an offer, station by value", x86["by-value"], m0["by-value"], x86["fresh"], m0["fresh"], STRINGS)
 row("an offer in a block, station by value", x86["by-value-block"], m0["by-value-block"], x86["fresh"], m0["fresh"], STRINGS)
-STATION = 24 * 228 + 24 * 24
+STATION = 24 * 228 + 24 * 24 + 16
 print(f"\nMemory of a program with one station on the M0, bytes: lent {STATION + m0['lent'][2]:,}"
       f" ({STATION:,} resident and {m0['lent'][2]:,} of stack), in blocks {STATION + m0['lent-block'][2]:,}, by value {m0['by-value'][2]:,} of stack")

@@ -1,11 +1,11 @@
 # Reads requests, as bytes in decimal, and from the next file the line that answers each (second/README.md has
-# the table of both). Tells what the station said of its channels and its book: each word raw, and beside it what that
-# is by the units of the ICD's Tables 4.5 and 4.9.
+# the table of both). Tells what the station said of its channels, its book and the book's summary: each word raw, and
+# beside it what that is by the units of the ICD's Tables 4.5 and 4.9.
 
 BEGIN {
     OFS = ", "
     words = split("P1 tk vx ax x  B P2 tb vy ay y  P3 gamma P l vz az z  tau dtau E P4 FT NT n M", name, " ")
-    IMMEDIATE = 8; ENTRY = 9; TALLIES = 10; HEALTH = 11
+    IMMEDIATE = 8; ENTRY = 9; TALLIES = 10; HEALTH = 11; SUMMARY = 14
     judged[1] = "usable"; judged[2] = "not usable"
     split("January February March April May June July August September October November December", month, " ")
     split("31 28 31 30 31 30 31 31 30 31 30 31", days, " ")
@@ -23,6 +23,7 @@ END {
     for (i = 1; i <= asked; i++) tell_channel(channels[i])
     print "The book:\n"
     for (i = 1; i <= pages; i++) tell_slot(slots[i])
+    if (summary) tell_summary()
 }
 
 # A query's answer is kept by what it is about, a channel or a slot.
@@ -31,6 +32,7 @@ function hear(op, about, line) {
     if (op == TALLIES) tallies[about] = line
     if (op == HEALTH) health[about] = line
     if (op == ENTRY) { slots[++pages] = about; entry[about] = line }
+    if (op == SUMMARY) summary = line
 }
 
 function tell_channel(channel,    t) {
@@ -98,6 +100,18 @@ function tell_slot(slot,    e, n4, na) {
     printf "slot %2d: day %d, %s (N4 %d, NA %d), carrier H = %d, %s by the almanac (C = %d)\n",
         slot, e[2], date(n4, na), n4, na, carrier(e[4]), judged[2 - good(slot)], good(slot)
     tell_entry(e[3], e[4])
+}
+
+# The panel's line. Of an empty book both days are 0.
+function tell_summary(    s) {
+    split(summary, s, " ")
+    if (s[2] == 0) print "\nThe panel: no slot is filled."
+    else printf "\nThe panel: %d slots are filled, the oldest day is %s, the newest %s.\n", s[2], day_told(s[3]), day_told(s[4])
+}
+
+function day_told(day,    n4) {
+    n4 = int((day - 1) / 1461) + 1
+    return day " (" date(n4, day - 1461 * (n4 - 1)) ")"
 }
 
 # C, bit 80, is the first of an entry's even half.

@@ -39,6 +39,7 @@ pub fn trial_input(seed: u64) -> Vec<u8> {
             station::polarity::add_all,
             station::health_flags::add_all,
             station::blocks::add_all,
+            station::summary::add_all,
         ],
     )
 }

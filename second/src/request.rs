@@ -19,6 +19,7 @@ pub const TALLIES: u8 = 10;
 pub const HEALTH: u8 = 11;
 pub const FRESH: u8 = 12;
 pub const BLOCK: u8 = 13;
+pub const SUMMARY: u8 = 14;
 pub const ENTRY_WORDS: u8 = 23;
 
 #[derive(Clone, Copy, Debug, PartialEq, Eq)]

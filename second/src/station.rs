@@ -10,7 +10,7 @@ pub mod tallies;
 
 use crate::refusal::Refusal;
 use almanac::shown_entries;
-use book::{Book, Entry};
+use book::{Book, Entry, Summary};
 use record::ImmediateRecord;
 use row::{News, Row, Taken};
 use tallies::Tallies;
@@ -67,6 +67,10 @@ impl Station {
     /// Order of refusals: 14, 13.
     pub fn entry(&self, slot: usize) -> Result<Entry, Refusal> {
         self.book.entry(slot)
+    }
+
+    pub fn summary(&self) -> Summary {
+        self.book.summary()
     }
 
     pub fn tallies(&self, channel: usize) -> Result<Tallies, Refusal> {

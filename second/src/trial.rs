@@ -65,6 +65,7 @@ fn call(station: &mut Station, request: Request) -> Option<Answer> {
         request::HEALTH => station::health(station, payload),
         request::FRESH => station::fresh(station, payload),
         request::BLOCK => Some(Ok(block::block(station, payload))),
+        request::SUMMARY => station::summary(station, payload),
         request::ENTRY_WORDS => station::entry_words(station, payload),
         _ => None,
     }

@@ -5,7 +5,7 @@ use std::collections::{HashMap, HashSet};
 
 use second::request::{
     append, whole_requests, Piece, Request, BLOCK, ENTRY, FRESH, HEALTH, IMMEDIATE, OFFER, RESET,
-    TALLIES,
+    SUMMARY, TALLIES,
 };
 use second::{make, trial};
 
@@ -165,7 +165,7 @@ fn blocks_are_followed_by_queries() {
     let ops: Vec<u8> = whole_requests(&input).map(|request| request.op).collect();
     let after_blocks = ops.windows(2).filter(|pair| pair[0] == BLOCK);
     let asked: HashSet<u8> = after_blocks.map(|pair| pair[1]).collect();
-    assert!(asked.is_subset(&HashSet::from([BLOCK, IMMEDIATE, TALLIES])));
+    assert!(asked.is_subset(&HashSet::from([BLOCK, IMMEDIATE, TALLIES, SUMMARY])));
     for op in [ENTRY, HEALTH] {
         let until_a_call = ops.split(|op| [OFFER, RESET, FRESH].contains(op));
         let mut after_a_block = until_a_call.filter(|ops| ops.contains(&BLOCK));

@@ -4,7 +4,7 @@ use second::known::{a, received_frame, A, B, B_DAMAGED, B_INVERTED, FLIPS_THAT_D
 use second::relative::to_relative;
 use second::request::{
     append, values_to_bytes, whole_requests, Piece, BLOCK, CHECK, ENTRY, ENTRY_WORDS, FRESH,
-    FROM_RELATIVE, HEALTH, IMMEDIATE, OFFER, READ, RESET, TALLIES, TO_RELATIVE, WRITE,
+    FROM_RELATIVE, HEALTH, IMMEDIATE, OFFER, READ, RESET, SUMMARY, TALLIES, TO_RELATIVE, WRITE,
 };
 use second::string::NavString;
 use second::{make, trial};
@@ -255,6 +255,16 @@ fn a_reset_and_a_fresh_station_print_ok() {
     );
 }
 
+#[test]
+fn a_summary_prints_count_oldest_and_newest_day() {
+    let mut requests = vec![(SUMMARY, vec![])];
+    requests.extend(offers_of_received_frame());
+    requests.extend([SUMMARY, FRESH, SUMMARY].map(|op| (op, vec![])));
+    let lines = answers(&requests);
+    assert_eq!(lines[0], "ok 0 0 0");
+    assert_eq!(lines[16..], ["ok 5 7409 7409", "ok", "ok 0 0 0"]);
+}
+
 /// B at this epoch, as a field of a block.
 fn field_of_b(channel: u8, epoch: u8) -> Vec<u8> {
     let (_, payload) = offer_b(channel, epoch);
@@ -336,7 +346,11 @@ fn payloads_of_the_station_have_their_lengths() {
             assert_eq!(answer_payload(op, payload), format!("bad {op}\n"));
         }
     }
-    assert_eq!(answer_payload(FRESH, &[0]), "bad 12\n");
+    for op in [FRESH, SUMMARY] {
+        for payload in [&[0][..], &[1, 0], &[0; 256]] {
+            assert_eq!(answer_payload(op, payload), format!("bad {op}\n"));
+        }
+    }
 }
 
 #[test]
@@ -371,7 +385,7 @@ fn the_made_input_draws_every_kind_of_line() {
         "ok 0 ", "ok 85 ", "no 1", "no 2", "no 31", "no 32", "no 33", "no 4", "no 5", "no 6",
         "no 7", "no 8", "no 9", "no 10 76", "no 11", "no 12", "no 13", "no 14", "taken 1 ",
         "no 41 ", "no 42 ", "no 43 ", "end", "bad 0", "bad 4", "bad 5", "bad 6", "bad 12",
-        "bad 23", "short 10",
+        "bad 14", "bad 23", "short 10",
     ] {
         assert!(lines.lines().any(|line| line.starts_with(kind)), "{kind}");
     }
@@ -409,7 +423,8 @@ fn the_input_for_words_asks_no_station() {
     let ops: Vec<u8> = whole_requests(&input).map(|request| request.op).collect();
     assert!((FROM_RELATIVE..=WRITE).all(|op| ops.contains(&op)));
     assert!(!ops.iter().any(|op| (OFFER..=FRESH).contains(op)));
-    assert!(!ops.contains(&BLOCK) && !ops.contains(&ENTRY_WORDS));
+    let others = [BLOCK, SUMMARY, ENTRY_WORDS];
+    assert!(!others.iter().any(|op| ops.contains(op)));
 }
 
 #[test]
@@ -429,6 +444,8 @@ fn the_input_for_tallies_reaches_the_limit_on_each() {
 fn the_sample_fills_the_book() {
     let lines = trial::answer_input(&make::sample_for_trial());
     let lines: Vec<&str> = lines.lines().collect();
+    let (summary, lines) = lines.split_last().expect("lines");
+    assert_eq!(*summary, "ok 24 7408 7409");
     let book = &lines[lines.len() - 24..];
     for (slot, line) in (1..).zip(book) {
         let day = match slot {

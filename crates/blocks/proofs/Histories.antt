@@ -74,5 +74,6 @@ blocks-as-calls =
       reordering = λ g h st st′ run run′. demands .reordering (saidIn g) (saidIn h) st st′ (its-run run) (its-run run′);
       two-cards = λ g h st st′ run run′ same. demands .two-cards (callsBy g) (callsBy h) same st st′ (its-calls run) (its-calls run′);
       book = λ h st run. demands .book (callsBy h) st (its-calls run);
+      summary = λ h st run. demands .summary (callsBy h) st (its-calls run);
       health = λ h st run. demands .health (callsBy h) st (its-calls run);
     }

@@ -20,6 +20,7 @@ use Rattle.station.specs.Demand1.{WellMade}
 use Rattle.station.specs.Demand2.{Tallied, Counted}
 use Rattle.station.specs.Demand3.{Answered, Exchanged, SameCalls, Reordered, SameShown, BookRule}
 use Rattle.station.specs.Health.{HealthIn}
+use Rattle.station.specs.Summary.{SummaryRule}
 use Rattle.blocks.specs.declared.Ended.{Ended}
 use Rattle.blocks.specs.declared.Handed.{Handed}
 use Rattle.blocks.specs.Handing.{HandsOver}
@@ -85,5 +86,7 @@ pub record BlocksAsCalls : Type 0 where
       → st .book ≡ st′ .book
   -- "at all times an almanac slot holds the greatest entry .. that any channel has shown since the start"
   pub book : (h : List Event) (st : Station) → RunsBy freshStation h st → (slot : ℕ) → 1 ≤ slot → slot ≤ slots → BookRule (callsBy h) st slot
+  -- "The summary must equal what the full walk gives, for every station reached from a fresh one."
+  pub summary : (h : List Event) (st : Station) → RunsBy freshStation h st → SummaryRule (callsBy h) st
   pub health : (h : List Event) (st : Station) → RunsBy freshStation h st → (c : ℕ) → isNoChannel c ≡ false
       → HealthIn (callsBy h) c (healthBy (keptAt st c) (st .book))

@@ -1,1 +1,2 @@
 pub mod Witness
+pub mod Panel

@@ -2,7 +2,7 @@
 -- Assumes nothing.
 use Prim.Native.Nat.{ℕ, _+_, _*_, _^_}
 use mathlib.Core.List.{List, [], _∷_, _++_}
-use mathlib.Core.Path.{_≡_, refl, sym, ap₂, _∙_}
+use mathlib.Core.Path.{_≡_, refl, sym, _∙_}
 use lib.ListN.{set, replicate}
 use Rattle.strings.specs.Number.{numberOf, paddingOf, misshapen, wordOf, flip, stringBytes}
 use Rattle.relative.specs.Relative.{readRelative, writeRelative}
@@ -18,12 +18,13 @@ use Rattle.words.specs.Good.{isGood}
 use Rattle.book.specs.Shows.{dayOf, isShown, threeOf, shownBy}
 use Rattle.book.specs.Book.{inSlot, emptyBook, joined, joinedShown}
 use Rattle.channel.specs.declared.Row.{Row}
+use Rattle.summary.specs.Walk.{noneFilled, withLine, walkFrom, walkOf}
 use Rattle.tallies.specs.declared.Tallies.{Tallies}
 use Rattle.tallies.specs.Tallies.{oneMore}
 use Rattle.immediate.specs.Kept.{hasRecord}
 use Rattle.channel.specs.Row.{isPresent, holdsFrame, emptyRow, newFrame, stored, heldWith, counted}
 use Rattle.channel.specs.Offers.{takenRow}
-use Rattle.shows.specs.Shows.{frameBy, brought}
+use Rattle.shows.specs.Shows.{frameBy, brought, changes}
 use Rattle.channel.specs.History.{Reset as ResetIt, heldAfter}
 use Rattle.channel.specs.Witness.{whole, inBytes, sent, sentDamaged, one, two, three, four, four′, five, six1, seven, fourteen, fifteen, ten}
 use Rattle.station.specs.declared.Station.{Station}
@@ -32,6 +33,7 @@ use Rattle.station.specs.declared.Health.the-variants.{Unknown, Usable, NotUsab
 use Rattle.station.specs.Station.{freshStation, noRow, rowAt, stationTests, toldIn, stationAfter, stationReset}
 use Rattle.station.specs.Queries.{keptAt, recordTests, entryTests, threeNumbers, judged, healthBy}
 use Rattle.station.specs.History.{Call, Offer, Reset, callsOn, saidAfter, whole as all, earlier, ShownIn, stationOf}
+use Rattle.station.proofs.AfterOffer.{same-station}
 
 -- ---- strings in bytes, as they are sent, besides those of a channel's table: there `five` is of day 8766, `six1` has nA 1 and C 0, `three` has l 0, and
 -- `four` has n 2 and M 01, `four′` n 2 and M 10. The table's first fields say which each is
@@ -206,7 +208,7 @@ abbrev pub withTallies : Tallies → Row → Row
 withTallies t row = record { strings = row .strings; start = row .start; present = row .present; immediate = row .immediate; tallies = t }
 
 abbrev pub talliesMoved : Station → ℕ → Tallies → Station
-talliesMoved st c t = record { rows = set (st .rows) c (withTallies t (rowAt st c)); book = st .book }
+talliesMoved st c t = record { rows = set (st .rows) c (withTallies t (rowAt st c)); book = st .book; summary = st .summary }
 
 pub record Witness : Type 0 where
   -- ---- the strings
@@ -239,6 +241,8 @@ pub record Witness : Type 0 where
   pub last-book : greaterLast .book ≡ tiedBook
   pub first-rows : greaterFirst .rows ≡ tiedRows
   pub first-book : greaterFirst .book ≡ tiedBook
+  pub last-summary : greaterLast .summary ≡ record { count = 1; oldest = 8766; newest = 8766 }
+  pub first-summary : greaterFirst .summary ≡ record { count = 1; oldest = 8766; newest = 8766 }
   -- as are the answers
   pub answer-alone : saidAfter tieCalls (Offer 3 106 seven) ≡ 0 ∷ 7 ∷ 0 ∷ 0 ∷ 1 ∷ 0 ∷ []
   pub answer-after : saidAfter (Offer 7 106 seven ∷ tieCalls) (Offer 3 106 seven) ≡ 0 ∷ 7 ∷ 0 ∷ 0 ∷ 1 ∷ 0 ∷ []
@@ -260,9 +264,9 @@ pub record Witness : Type 0 where
   pub channel-23 : answerOf (stationTests entry 23 107 one) (toldIn entry 23 107 one) ≡ 0 ∷ 1 ∷ 0 ∷ 0 ∷ 1 ∷ 0 ∷ []
   pub no-reset-said : saidAfter entryCalls (Reset 24) ≡ 1 ∷ []
   pub no-reset-leaves : stationOf (Reset 24 ∷ entryCalls) ≡ entry
-  -- ---- "A reset empties the row, record and tallies; the book stays"
+  -- ---- "A reset empties the row, record and tallies; the book stays", and its summary
   pub reset-said : saidAfter entryCalls (Reset 3) ≡ 0 ∷ []
-  pub reset-leaves : stationOf (Reset 3 ∷ entryCalls) ≡ record { rows = freshStation .rows; book = entry .book }
+  pub reset-leaves : stationOf (Reset 3 ∷ entryCalls) ≡ record { rows = freshStation .rows; book = entry .book; summary = entry .summary }
   pub reset-record : stationOf (Reset 3 ∷ recordCalls two) ≡ freshStation
   -- ---- health
   -- with M 01 and l 0: "usable if the record has the top bit of B at 0 and the entry has C = 1, and not usable if either fails"
@@ -290,7 +294,7 @@ pub record Witness : Type 0 where
   pub record-channel : answerOf (recordTests goodEntry 24) [] ≡ 1 ∷ []
 
 pub witness : Witness
-unfolding whole inBytes sent sentDamaged one two three four four′ five six1 seven fourteen fifteen six2 sixAbove sixGood fiveNext twoIll threeRaised four00 four11 damaged soundTests numberOf paddingOf misshapen wordOf flip stringBytes readRelative writeRelative firstSymbol position sumC sumAll syndrome sumsSet highest placed judge ruling mended sumsMade encode layout valuesOf firstBad entryOf greater isGood dayOf isShown threeOf shownBy emptyBook joined joinedShown oneMore isPresent holdsFrame hasRecord emptyRow newFrame stored heldWith counted takenRow frameBy brought heldAfter freshStation noRow stationAfter stationReset judged healthBy callsOn saidAfter stationOf half entry twoFrames twoChannels greaterLast greaterFirst tiedRows tiedBook nextDay sixLast recordAlone goodEntry illEntry illRecord raised01 raised10 raised11 raised00 illRaised00 laterRaised laterRecord
+unfolding whole inBytes sent sentDamaged one two three four four′ five six1 seven fourteen fifteen six2 sixAbove sixGood fiveNext twoIll threeRaised four00 four11 damaged soundTests numberOf paddingOf misshapen wordOf flip stringBytes readRelative writeRelative firstSymbol position sumC sumAll syndrome sumsSet highest placed judge ruling mended sumsMade encode layout valuesOf firstBad entryOf greater isGood dayOf isShown threeOf shownBy emptyBook joined joinedShown oneMore isPresent holdsFrame hasRecord emptyRow newFrame stored heldWith counted takenRow frameBy brought changes noneFilled withLine walkFrom walkOf heldAfter freshStation noRow stationAfter stationReset judged healthBy callsOn saidAfter stationOf half entry twoFrames twoChannels greaterLast greaterFirst tiedRows tiedBook nextDay sixLast recordAlone goodEntry illEntry illRecord raised01 raised10 raised11 raised00 illRaised00 laterRaised laterRecord
 witness =
     record {
       six2-sent = refl;
@@ -324,6 +328,8 @@ witness =
       last-book = refl;
       first-rows = refl;
       first-book = refl;
+      last-summary = refl;
+      first-summary = refl;
       answer-alone = refl;
       answer-after = refl;
       next-day = refl;
@@ -364,5 +370,5 @@ witness =
 -- so: "Exchange two neighbouring calls on different channels: .. the whole station afterwards are unchanged"
 pub exchanged : greaterLast ≡ greaterFirst
 exchanged =
-    ap₂ (λ (rows : List Row) (book : Book). record { rows = rows; book = book }) (witness .last-rows ∙ sym (witness .first-rows))
-    (witness .last-book ∙ sym (witness .first-book))
+    same-station greaterLast greaterFirst (witness .last-rows ∙ sym (witness .first-rows)) (witness .last-book ∙ sym (witness .first-book))
+    (witness .last-summary ∙ sym (witness .first-summary))

@@ -1,13 +1,15 @@
 -- An offer to a station that is lent, and changed in its place (the paper, "Frames and the book" and "Numbers that say no"). For every station value.
 -- Assumes nothing.
 use Prim.Native.Nat.{ℕ}
+use mathlib.Core.Bool.{Bool}
 use mathlib.Core.List.{List, []}
 use mathlib.Core.Path.{_≡_}
 use Rattle.strings.specs.Numbers.{answerOf}
 use Rattle.book.specs.declared.Shown.{Shown}
 use Rattle.book.specs.Book.{joinedShown}
+use Rattle.shows.specs.Shows.{risesIn}
 use Rattle.station.specs.declared.Station.{Station}
-use Rattle.station.specs.Station.{stationTests, channelTests, toldIn, stationAfter, stationReset}
+use Rattle.station.specs.Station.{stationTests, channelTests, toldIn, corrected, stationAfter, stationReset}
 use Rattle.told.specs.Told.{packed}
 
 -- the station left in its place, and the answer in the paper's numbers, the first in the lowest byte
@@ -20,6 +22,11 @@ pub record ResetsLent (st : Station) (c : ℕ) (st′ : Station) (r : ℕ) : Typ
   pub answer : r ≡ packed (answerOf (channelTests c) [])
   pub station : st′ ≡ stationReset st c
 
--- one thing that is shown, joined to the book; the rows as they were
-abbrev pub BringsOne : Station → Shown → Station → Type 0
-BringsOne st s st′ = st′ ≡ record { rows = st .rows; book = joinedShown (st .book) s }
+-- one thing that is shown, joined to the book, and whether an entry changed; the rows and the summary as they were
+abbrev pub BringsOne : Station → Shown → Station → Bool → Type 0
+BringsOne st s st′ changed =
+    (st′ ≡ record { rows = st .rows; book = joinedShown (st .book) s; summary = st .summary }) × (changed ≡ risesIn (st .book) s)
+
+-- "corrected at each change of an entry": the summary of the book as it is now; the rows and the book as they were
+abbrev pub SumsUp : Station → Bool → Station → Type 0
+SumsUp st changed st′ = st′ ≡ record { rows = st .rows; book = st .book; summary = corrected changed (st .book) (st .summary) }

@@ -8,8 +8,9 @@ use book::rises;
 use shows::newly_shown;
 use station::LAST_CHANNEL;
 use station::Station;
+use summary::walk_book;
 ghost use Rattle.book.specs.Book.{InBook};
-ghost use Rattle.lent.specs.Lent.{OffersLent, BringsOne};
+ghost use Rattle.lent.specs.Lent.{OffersLent, BringsOne, SumsUp};
 
 // Offers a string, in relative form and of any length, to a channel at an epoch. CHANNEL is told as
 // 1, before anything of the station is read.
@@ -26,19 +27,33 @@ pub extern "C" fn spineyarrow_offer(st: &mut Station, channel: u8, epoch: u32, s
     let told = told_in(offered.answer);
     st.rows[i] = offered.row;
     let shown = newly_shown(offered.answer, offered.row.present, offered.row.strings);
+    let mut changed = false;
     for j in 0..5 {
-        bring_one(st, shown[j]);
+        changed = bring_one(st, shown[j]) | changed;
     }
+    sum_up(st, changed);
     told
 }
 
 // Joins what is shown to the book, in its place: an entry is copied only where what is shown rises.
-fn bring_one(st: &mut Station, s: Shown)
+// Answers whether it did.
+fn bring_one(st: &mut Station, s: Shown) -> bool
     requires { ⌜ InBook s ⌝ }
-    ensures { λ _. ⌜ BringsOne (now (st .entry)) s (now (st .exit)) ⌝ }
+    ensures { λ r. ⌜ BringsOne (now (st .entry)) s (now (st .exit)) r ⌝ }
 {
     let at = place_of(s);
-    if rises(st.book.entries[at], s) {
+    let higher = rises(st.book.entries[at], s);
+    if higher {
         st.book.entries[at] = join(st.book.entries[at], s);
+    }
+    higher
+}
+
+// The summary of the book where an entry of it changed: a walk, and no walk where none did.
+fn sum_up(st: &mut Station, changed: bool)
+    ensures { λ _. ⌜ SumsUp (now (st .entry)) changed (now (st .exit)) ⌝ }
+{
+    if changed {
+        st.summary = walk_book(st.book.entries);
     }
 }

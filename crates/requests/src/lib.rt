@@ -29,6 +29,7 @@ use station_calls::fresh_call;
 use station_calls::offer_call;
 use station_calls::reset_call;
 use station_queries::query_call;
+use station_queries::summary_call;
 use string_calls::string_call;
 use word_calls::read_call;
 use word_calls::write_call;
@@ -65,6 +66,7 @@ fn told(op: u8, payload: &[u8], st: Station, text: &mut Text) -> usize
         4 => read_call(payload, text),
         5 => write_call(payload, text),
         8 | 9 | 10 | 11 | 23 => query_call(op, payload, st, text),
+        14 => summary_call(payload, st, text),
         _ => say_bad(text, op),
     }
 }

@@ -21,6 +21,7 @@ use station::HealthFound;
 use station::RecordFound;
 use station::TalliesFound;
 use strings::Written;
+use summary::Summary;
 use tallies::Tallies;
 ghost use Prim.Native.Nat.{_≤_};
 
@@ -144,6 +145,16 @@ fn put_tallies(text: &mut Text, t: Tallies) -> usize
     let clean = put_next(text, offered, t.clean as u64);
     let repaired = put_next(text, clean, t.repaired as u64);
     put_next(text, repaired, t.refused as u64)
+}
+
+// `ok COUNT OLDEST NEWEST`.
+pub(crate) fn say_summary(text: &mut Text, s: Summary) -> usize
+    ensures { λ n. ⌜ n ≤ 512 ⌝ }
+{
+    let ok = say_ok(text);
+    let count = put_next(text, ok, s.count);
+    let oldest = put_next(text, count, s.oldest as u64);
+    put_next(text, oldest, s.newest as u64)
 }
 
 // `ok HEALTH`.

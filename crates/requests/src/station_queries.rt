@@ -1,10 +1,11 @@
-// Requests 8 to 11 and 23: the calls that ask the station.
+// Requests 8 to 11, 14 and 23: the calls that ask the station.
 use crate::answers::say_bad;
 use crate::line::Text;
 use crate::station_answers::say_entry;
 use crate::station_answers::say_entry_words;
 use crate::station_answers::say_health;
 use crate::station_answers::say_immediate;
+use crate::station_answers::say_summary;
 use crate::station_answers::say_tallies;
 use station::Station;
 ghost use Prim.Native.Nat.{_≤_};
@@ -30,4 +31,14 @@ fn query(op: u8, which: u8, st: Station, text: &mut Text) -> usize
         23 => say_entry_words(text, station::entry_of(st, which)),
         _ => say_bad(text, op),
     }
+}
+
+// Request 14: no payload.
+pub(crate) fn summary_call(payload: &[u8], st: Station, text: &mut Text) -> usize
+    ensures { λ n. ⌜ n ≤ 512 ⌝ }
+{
+    if payload.len() != 0 {
+        return say_bad(text, 14);
+    }
+    say_summary(text, station::summary_of(st))
 }

@@ -1,4 +1,5 @@
 pub mod Shows
+pub mod Changes
 pub mod FrameNumbers
 pub mod ShownExactly
 pub mod Witness

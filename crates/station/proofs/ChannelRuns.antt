@@ -12,6 +12,7 @@ use lib.ListN.{length, getD, set, length-set, length-replicate, getD-replicate}
 use lib.Seq.{getD-set-same, getD-set-other}
 use Rattle.strings.specs.Numbers.{test, answerOf}
 use Rattle.book.specs.declared.Book.{Book}
+use Rattle.summary.specs.declared.Summary.{Summary}
 use Rattle.channel.specs.declared.Row.{Row}
 use Rattle.channel.specs.Row.{emptyRow}
 use Rattle.channel.specs.Offers.{answerPaper, offerTests, offeredRow, Offers}
@@ -19,7 +20,7 @@ use Rattle.channel.specs.History.{Call as OnChannel, saidTo, Runs as ChannelRun
 use Rattle.station.specs.declared.Station.{Station}
 use Rattle.station.specs.declared.Stepped.{Stepped}
 use Rattle.station.specs.declared.Emptied.{Emptied}
-use Rattle.station.specs.Station.{channels, lastChannel, freshStation, noRow, rowAt, heldAt, isNoChannel, toldIn, bookAfter, stationAfter, stationReset, OffersTo, Resets}
+use Rattle.station.specs.Station.{channels, lastChannel, freshStation, noRow, rowAt, heldAt, isNoChannel, toldIn, bookAfter, summaryAfter, stationAfter, stationReset, OffersTo, Resets}
 use Rattle.station.specs.History.{Call, Offer, Reset, channelOf, itself, callsOn, Runs, fresh, offering, resetting}
 
 -- ---- one row
@@ -42,7 +43,11 @@ module _ (st : Station) (c : ℕ) where
   after-none epoch s e = rw e
 
   pub after-some : (epoch : ℕ) (s : List ℕ) → isNoChannel c ≡ false
-      → stationAfter st c epoch s ≡ record { rows = set (st .rows) c (offeredRow (rowAt st c) epoch s); book = bookAfter (st .book) (rowAt st c) epoch s }
+      → stationAfter st c epoch s ≡ record {
+        rows = set (st .rows) c (offeredRow (rowAt st c) epoch s);
+        book = bookAfter (st .book) (rowAt st c) epoch s;
+        summary = summaryAfter (st .summary) (st .book) (rowAt st c) epoch s;
+      }
   unfolding stationAfter
   after-some epoch s e = rw e
 
@@ -50,7 +55,7 @@ module _ (st : Station) (c : ℕ) where
   unfolding stationReset
   reset-none e = rw e
 
-  pub reset-some : isNoChannel c ≡ false → stationReset st c ≡ record { rows = set (st .rows) c emptyRow; book = st .book }
+  pub reset-some : isNoChannel c ≡ false → stationReset st c ≡ record { rows = set (st .rows) c emptyRow; book = st .book; summary = st .summary }
   unfolding stationReset
   reset-some e = rw e
 
@@ -84,9 +89,10 @@ on-none call cs st e i =
         by false q = refl
 
 -- a call on a channel that leaves its row as the channel's own call does
-on-one : (call : Call) (cs : List Call) (st : Station) (row : Row) (book : Book) → isNoChannel (channelOf call) ≡ false → InStep cs st
-    → ChannelRuns (itself call ∷ callsOn (channelOf call) cs) row → InStep (call ∷ cs) (record { rows = set (st .rows) (channelOf call) row; book = book })
-on-one call cs st row book e i here =
+on-one : (call : Call) (cs : List Call) (st : Station) (row : Row) (book : Book) (summary : Summary) → isNoChannel (channelOf call) ≡ false → InStep cs st
+    → ChannelRuns (itself call ∷ callsOn (channelOf call) cs) row
+    → InStep (call ∷ cs) (record { rows = set (st .rows) (channelOf call) row; book = book; summary = summary })
+on-one call cs st row book summary e i here =
     record {
       long = length-set (st .rows) (channelOf call) row ∙ i .long;
       run = λ c f. by c f (eqb (channelOf call) c) refl;
@@ -137,7 +143,8 @@ step-offer c epoch s cs st r i o = by (isNoChannel c) refl
     by true e = subst (InStep (Offer c epoch s ∷ cs)) (sym (o .station ∙ after-none st c epoch s e)) (on-none (Offer c epoch s) cs st e i)
     by false e =
         subst (InStep (Offer c epoch s ∷ cs)) (sym (o .station ∙ after-some st c epoch s e))
-        (on-one (Offer c epoch s) cs st (offeredRow (rowAt st c) epoch s) (bookAfter (st .book) (rowAt st c) epoch s) e i
+        (on-one (Offer c epoch s) cs st (offeredRow (rowAt st c) epoch s) (bookAfter (st .book) (rowAt st c) epoch s)
+        (summaryAfter (st .summary) (st .book) (rowAt st c) epoch s) e i
         (offering-it epoch s (callsOn c cs) (rowAt st c) (record { row = offeredRow (rowAt st c) epoch s; answer = r .answer }) (i .run c e) (row-offers st c epoch s r e o)))
 
 step-reset : (c : ℕ) (cs : List Call) (st : Station) (r : Emptied) → InStep cs st → Resets st c r → InStep (Reset c ∷ cs) (r .station)
@@ -147,7 +154,7 @@ step-reset c cs st r i o = by (isNoChannel c) refl
     by true e = subst (InStep (Reset c ∷ cs)) (sym (o .station ∙ reset-none st c e)) (on-none (Reset c) cs st e i)
     by false e =
         subst (InStep (Reset c ∷ cs)) (sym (o .station ∙ reset-some st c e))
-        (on-one (Reset c) cs st emptyRow (st .book) e i (resetting-it (callsOn c cs) (rowAt st c) (i .run c e)))
+        (on-one (Reset c) cs st emptyRow (st .book) (st .summary) e i (resetting-it (callsOn c cs) (rowAt st c) (i .run c e)))
 
 -- EACH ROW IS A CHANNEL'S RUN
 pub in-step : (cs : List Call) (st : Station) → Runs cs st → InStep cs st

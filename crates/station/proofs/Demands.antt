@@ -21,7 +21,6 @@ use Rattle.book.specs.Entry.{Three, meaning}
 use Rattle.book.specs.Book.{slots, inSlot}
 use Rattle.strings.proofs.Below.{both}
 use Rattle.strings.proofs.DamagedExactly.{damaged-exactly}
-use Rattle.book.proofs.Order.{below-same}
 use Rattle.tallies.specs.declared.Tallies.{Tallies}
 use Rattle.channel.specs.Frame.{isHere}
 use Rattle.immediate.specs.declared.Immediate.{Immediate}
@@ -30,7 +29,7 @@ use Rattle.immediate.proofs.Good.{four-good}
 use Rattle.channel.specs.Row.{frameOf}
 use Rattle.hearing.specs.Hears.{wholeOf}
 use Rattle.channel.specs.Offers.{isTaken, OnlyCounted, offeredRow, storesIt}
-use Rattle.shows.specs.Shows.{showsOf, brought}
+use Rattle.shows.specs.Shows.{showsOf, brought, changes}
 use Rattle.channel.specs.History.{recordAfter}
 use Rattle.channel.proofs.HeldFrame.{held-is, refused-only, taken-exactly}
 use Rattle.channel.proofs.TrueCounts.{tallies-are}
@@ -39,7 +38,7 @@ use Rattle.channel.proofs.Relock.{every-phase}
 use Rattle.station.specs.declared.Station.{Station}
 use Rattle.station.specs.declared.Stepped.{Stepped}
 use Rattle.station.specs.declared.Health.{Health}
-use Rattle.station.specs.Station.{freshStation, noRow, rowAt, isNoChannel, stationAfter, stationReset, OffersTo}
+use Rattle.station.specs.Station.{freshStation, noRow, rowAt, isNoChannel, bookAfter, corrected, stationAfter, stationReset, OffersTo}
 use Rattle.station.specs.History.{Call, callsOn, Runs, fresh, offering, resetting, stationOf}
 use Rattle.station.specs.declared.Health.the-variants.{Unknown, Usable, NotUsable}
 use Rattle.station.specs.Queries.{keptAt, isSlot, isEmpty, topOfB, satelliteOf, lOf, modelOf, lCounted, statusOf, judged, isKnown, statusIn, healthBy}
@@ -57,6 +56,7 @@ use Rattle.station.proofs.Sent.{heard-as-sent}
 use Rattle.station.proofs.EitherWay.{either-way, histories-alike}
 use Rattle.station.proofs.BookRule.{empty-exactly, greatest-there}
 use Rattle.station.proofs.Reorder.{offer-said, reset-said, same-book}
+use Rattle.station.proofs.Summary.{shown-filled, held, summary-rule}
 use Rattle.station.proofs.WellMade.{runs-made}
 use Rattle.station.proofs.Exchange.{runs-of, every-run, exchanged, reordered}
 use Rattle.station.proofs.Tallied.{tallied}
@@ -76,6 +76,7 @@ refusal-leaves st c epoch s r made e o n =
     let q : storesIt (frameOf row) epoch s ≡ false = ap (λ (t : Bool). t && not (isHere (frameOf row) epoch (wholeOf s))) (sym (taken-exactly row epoch s (record { row = next; answer = r .answer }) p) ∙ n) in
     subst (RefusalLeaves st c) (sym (o .station ∙ after-some st c epoch s e)) (record {
       book = ap (λ (t : Bool). pick t (brought (st .book) (showsOf (frameOf next))) (st .book)) q;
+      summary = ap (λ (t : Bool). corrected (t && changes (st .book) (showsOf (frameOf next))) (bookAfter (st .book) row epoch s) (st .summary)) q;
       others = λ k d. getD-set-other (st .rows) c k next noRow d;
       own = subst (OnlyCounted row) (sym (getD-set-same (st .rows) c next noRow (omega (arith, served-below c e, made .rows))))
           (refused-only row epoch s (record { row = next; answer = r .answer }) p n);
@@ -204,18 +205,12 @@ module _ (cs : List Call) (st : Station) (run : Runs cs st) (c : ℕ) (e : isNoC
     its-slot : satelliteOf (keptAt st c) ≡ n
     its-slot = ap (λ (l : List ℕ). wordOf (getD l 3 0) 15 11) (there .1)
 
-    within : (1 ≤ n) × (n ≤ slots)
-    within = let b = both (leb 1 n) (leb n slots) (w .slot) in (leb-true 1 n (b .0), leb-true n slots (b .1))
-
     not-empty : inSlot (st .book) n .day ≡ 0 → ⊥
-    not-empty z = empty-exactly cs st run n (within .0) (within .1) .0 z (w .entry) (w .greatest .shown)
+    not-empty = shown-filled cs st run n (w .entry) (w .greatest .shown)
 
     -- the slot holds that entry
     its-entry : meaning (inSlot (st .book) n) ≡ w .entry
-    its-entry =
-        let g = greatest-there cs st run n (within .0) (within .1) not-empty in
-        below-same (meaning (inSlot (st .book) n)) (w .entry) (g .none-above (w .entry) (w .greatest .shown))
-        (w .greatest .none-above (meaning (inSlot (st .book) n)) (g .shown))
+    its-entry = held cs st run n (w .entry) (w .greatest)
 
     -- so the judgement decides
     known-judged : healthBy (keptAt st c) (st .book) ≡ judged top its-l (statusOf (w .entry))
@@ -366,6 +361,7 @@ demands =
       reordering = reordered;
       two-cards = two-cards;
       book = book-rule;
+      summary = summary-rule;
       every-beat = λ h phase. let w = every-phase h phase in (w .0, (w .1, w .2));
       relock = relocked;
       health = health-in;

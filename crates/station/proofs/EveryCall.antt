@@ -42,6 +42,7 @@ use Rattle.words.proofs.RoundTrips.{read-once, read-numbers, write-once, write-
 use Rattle.words.specs.Immediate.{immediateOf}
 use Rattle.book.specs.Entry.{meaning}
 use Rattle.book.specs.Book.{inSlot}
+use Rattle.summary.specs.declared.Summary.{Summary}
 use Rattle.station.specs.declared.Station.{Station}
 use Rattle.station.specs.declared.Stepped.{Stepped}
 use Rattle.station.specs.declared.Emptied.{Emptied}
@@ -54,7 +55,7 @@ use Rattle.station.specs.declared.TalliesFound.the-variants.{Found as Fo
 use Rattle.station.specs.declared.HealthFound.{HealthFound}
 use Rattle.station.specs.declared.HealthFound.the-variants.{Found as FoundHealth, Refused as NoHealth}
 use Rattle.station.specs.Station.{rowAt, isNoChannel, stationAfter, OffersTo, stationReset, Resets}
-use Rattle.station.specs.Queries.{keptAt, recordTests, FindsRecord, entryTests, threeNumbers, FindsEntry, fourCounts, FindsTallies, healthNumber, healthBy, FindsHealth}
+use Rattle.station.specs.Queries.{keptAt, recordTests, FindsRecord, entryTests, threeNumbers, FindsEntry, fourCounts, FindsTallies, FindsSummary, healthNumber, healthBy, FindsHealth}
 use Rattle.station.specs.Demand1.{OneAnswer, StationAnswers, StringsAnswer, StationNumbers, StringNumbers, NoOutputByte}
 use Rattle.station.proofs.Found.{one-record, no-record, one-entry, no-entry}
 use Rattle.station.proofs.OnceOnly.{offers-to-once, resets-once, offers-to-exactly, resets-exactly}
@@ -109,6 +110,10 @@ module _ (st : Station) where
       (λ (f : Fitting ts). one TalliesFound (FindsTallies st c) (tallies-once st c) (NoTallies (f .refusal)) (f .says (fourCounts t)))
       (settles ts tt)
 
+  -- the summary: its promise is an equation
+  summary-one : OneAnswer Summary (FindsSummary st)
+  summary-one = record { answer = st .summary; fits = refl; only = λ q f. f }
+
   health-one : (c : ℕ) → OneAnswer HealthFound (FindsHealth st c)
   unfolding FindsHealth
   health-one c =
@@ -122,7 +127,7 @@ module _ (st : Station) where
   -- EVERY CALL ANSWERS, of any station
   pub station-answers : StationAnswers st
   station-answers =
-      record { offer = offer-one; reset = reset-one; immediate-of = record-one; entry-of = entry-one; tallies-of = tallies-one; health-of = health-one }
+      record { offer = offer-one; reset = reset-one; immediate-of = record-one; entry-of = entry-one; tallies-of = tallies-one; summary-of = summary-one; health-of = health-one }
 
   -- THE FIRST THAT FITS IS GIVEN, AND GIVEN ONLY THEN
   pub station-numbers : StationNumbers st

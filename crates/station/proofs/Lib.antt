@@ -8,7 +8,9 @@ pub mod Sent
 pub mod ChannelRuns
 pub mod Holding
 pub mod BookRule
+pub mod Walked
 pub mod Reorder
+pub mod Summary
 pub mod Refusals
 pub mod EveryHistory
 pub mod EveryCall

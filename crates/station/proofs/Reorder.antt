@@ -1,7 +1,7 @@
 -- Only each channel's own order counts: two histories with the same calls on every channel leave the same station (reorder), and each call gets the
 -- answer that the calls before it on its channel determine (offer-said, reset-said). So neighbouring calls on different channels can be exchanged.
 -- Assumes nothing.
-use mathlib.Core.Path.{_≡_, refl, sym, ap, ap₂, subst, _∙_}
+use mathlib.Core.Path.{_≡_, refl, sym, ap, subst, _∙_}
 use mathlib.Core.Bool.{Bool, true, false}
 use mathlib.Core.List.{List, [], _∷_, _++_}
 use Prim.Native.Nat.{ℕ, suc, _+_, _-_, _≤_}
@@ -16,6 +16,7 @@ use Rattle.book.specs.declared.Entry.{Entry}
 use Rattle.book.specs.declared.Book.{Book}
 use Rattle.book.specs.Entry.{Three, blank}
 use Rattle.book.specs.Book.{slots, inSlot}
+use Rattle.summary.specs.Walk.{walkOf}
 use Rattle.channel.specs.declared.Row.{Row}
 use Rattle.channel.specs.Frame.{Frame}
 use Rattle.channel.specs.Row.{emptyRow}
@@ -31,6 +32,8 @@ use Rattle.station.specs.Demand3.{SameCalls}
 use Rattle.station.proofs.ChannelRuns.{in-step, calls-other, own-answer}
 use Rattle.station.proofs.Holding.{held-once}
 use Rattle.station.proofs.BookRule.{slot-holds, book-full}
+use Rattle.station.proofs.AfterOffer.{same-station}
+use Rattle.station.proofs.Walked.{runs-walked}
 
 -- ---- a channel's calls leave one row
 rowAfter : List OnChannel → Row
@@ -84,6 +87,10 @@ module _ (cs ds : List Call) (st st′ : Station) (run : Runs cs st) (run′ : R
     pub same-book : st .book ≡ st′ .book
     same-book = ap (λ (l : List Entry). record { entries = l }) same-entries
 
+  -- equal books, equal walks
+  same-summary : st .book ≡ st′ .book → st .summary ≡ st′ .summary
+  same-summary e = runs-walked cs st run ∙ ap (λ (b : Book). walkOf (b .entries)) e ∙ sym (runs-walked ds st′ run′)
+
   -- that had the same calls on every channel
   module _ (same : SameCalls cs ds) where
     same-row : (c : ℕ) → isNoChannel c ≡ false → rowAt st c ≡ rowAt st′ c
@@ -99,8 +106,8 @@ module _ (cs ds : List Call) (st st′ : Station) (run : Runs cs st) (run′ : R
     -- ARE THE SAME STATION: only each channel's own order counts
     pub reorder : st ≡ st′
     reorder =
-        ap₂ (λ (x : List Row) (b : Book). record { rows = x; book = b }) same-rows
-        (same-book (same-shown cs ds same) (same-shown ds cs (same-back cs ds same)))
+        let book = same-book (same-shown cs ds same) (same-shown ds cs (same-back cs ds same)) in
+        same-station st st′ same-rows book (same-summary book)
 
 -- ---- each call's answer
 -- it is told by the calls before it on its channel

@@ -32,18 +32,20 @@ use Rattle.relative.proofs.RelativeCode.{read-written, written-lt, inverse-lt, 
 use Rattle.hearing.specs.Hears.{plainOf, wholeOf, hearTests}
 use Rattle.hearing.proofs.Hearing.{heard-then}
 use Rattle.book.specs.declared.Book.{Book}
+use Rattle.book.specs.declared.Shown.{Shown}
 use Rattle.tallies.specs.Tallies.{afterOffer}
 use Rattle.tallies.specs.Tallies.Outcome.{Taken}
 use Rattle.channel.specs.declared.Row.{Row}
 use Rattle.channel.specs.Frame.{placeTests}
 use Rattle.channel.specs.Row.{holdsFrame, frameOf, counted}
 use Rattle.channel.specs.Offers.{answerPaper, offerTests, takenRow, offeredRow}
-use Rattle.shows.specs.Shows.{showsOf, brought}
+use Rattle.shows.specs.Shows.{showsOf, brought, changes}
 use Rattle.station.specs.declared.Station.{Station}
 use Rattle.station.specs.declared.Stepped.{Stepped}
 use Rattle.station.specs.declared.TalliesFound.{TalliesFound}
-use Rattle.station.specs.Station.{channels, lastChannel, noRow, rowAt, heldAt, isNoChannel, toldIn, bookAfter, stationAfter, OffersTo}
+use Rattle.station.specs.Station.{channels, lastChannel, noRow, rowAt, heldAt, isNoChannel, toldIn, bookAfter, entryChanges, corrected, summaryAfter, stationAfter, OffersTo}
 use Rattle.station.specs.Queries.{fourCounts, talliesPaper, FindsTallies}
+use Rattle.station.proofs.AfterOffer.{same-station}
 use Rattle.station.specs.Sent.{SentString, mOf, SentAs, SentWith, IsBit, Awaits, talliesAt, SameButVerdict, HeardAsSent}
 
 -- ---- upright or inverted, a string has its shape and is read as it was
@@ -169,10 +171,25 @@ module _ (st : Station) (c epoch n : ℕ) (a : Awaits st c epoch n) (idle : bitO
   unfolding counted
   book-left = rw (clear, w .whole, holds-none)
 
+  -- and the summary: an entry changes by what the frame then shows
+  abbrev shown : List Shown
+  shown = showsOf (frameOf (takenRow row epoch n))
+
+  changes-left : entryChanges (st .book) row epoch s ≡ changes (st .book) shown
+  unfolding counted
+  changes-left = rw (clear, w .whole, holds-none)
+
+  summary-left : summaryAfter (st .summary) (st .book) row epoch s ≡ corrected (changes (st .book) shown) (brought (st .book) shown) (st .summary)
+  summary-left = ap₂ (λ (t : Bool) (b : Book). corrected t b (st .summary)) changes-left book-left
+
   module _ (r : Stepped) (o : OffersTo st c epoch s r) where
-    station-left : r .station ≡ record { rows = set (st .rows) c next; book = brought (st .book) (showsOf (frameOf (takenRow row epoch n))) }
+    station-left : r .station ≡ record {
+      rows = set (st .rows) c next;
+      book = brought (st .book) shown;
+      summary = corrected (changes (st .book) shown) (brought (st .book) shown) (st .summary);
+    }
     unfolding stationAfter
-    station-left = o .station ∙ rw (is-served c (a .served)) (ap₂ (λ (x : Row) (b : Book). record { rows = set (st .rows) c x; book = b }) row-left book-left)
+    station-left = o .station ∙ rw (is-served c (a .served)) (same-station _ _ (ap (set (st .rows) c) row-left) book-left summary-left)
 
     its-row : length (st .rows) ≡ channels → rowAt (r .station) c ≡ next
     its-row long = ap (λ (x : Station). rowAt x c) station-left ∙ getD-set-same (st .rows) c next noRow (omega (arith, a .served))
@@ -199,6 +216,8 @@ same-left st c epoch n g i s t q r long a b ne e o f p =
     record {
       book = ap (λ (z : Station). z .book) (station-left st c epoch n a (g .idle) t (Repaired i) v r p)
           ∙ sym (ap (λ (z : Station). z .book) (station-left st c epoch n a (g .idle) s Clean w q o));
+      summary = ap (λ (z : Station). z .summary) (station-left st c epoch n a (g .idle) t (Repaired i) v r p)
+          ∙ sym (ap (λ (z : Station). z .summary) (station-left st c epoch n a (g .idle) s Clean w q o));
       others = λ k d. other-row st c epoch n a (g .idle) t (Repaired i) v r p k d ∙ sym (other-row st c epoch n a (g .idle) s Clean w q o k d);
       strings = ap (λ (z : Row). z .strings) y ∙ sym (ap (λ (z : Row). z .strings) x);
       start = ap (λ (z : Row). z .start) y ∙ sym (ap (λ (z : Row). z .start) x);

@@ -12,6 +12,7 @@ use lib.Seq.{getD-set-same, getD-set-other}
 use Rattle.strings.specs.Pick.{pick}
 use Rattle.book.specs.declared.Book.{Book}
 use Rattle.book.proofs.Joins.{Full, empty-full}
+use Rattle.summary.specs.declared.Summary.{Summary}
 use Rattle.channel.specs.declared.Row.{Row}
 use Rattle.channel.specs.Row.{frameOf, emptyRow}
 use Rattle.channel.specs.Offers.{offeredRow, storesIt}
@@ -20,7 +21,7 @@ use Rattle.channel.proofs.HeldFrame.{offered-long}
 use Rattle.station.specs.declared.Station.{Station}
 use Rattle.station.specs.declared.Stepped.{Stepped}
 use Rattle.station.specs.declared.Emptied.{Emptied}
-use Rattle.station.specs.Station.{channels, freshStation, noRow, rowAt, isNoChannel, bookAfter, OffersTo, Resets}
+use Rattle.station.specs.Station.{channels, freshStation, noRow, rowAt, isNoChannel, bookAfter, summaryAfter, OffersTo, Resets}
 use Rattle.station.specs.History.{Call, Runs, fresh, offering, resetting}
 use Rattle.station.specs.Demand1.{WellMade}
 use Rattle.station.proofs.ChannelRuns.{served-below, after-none, after-some, reset-none, reset-some}
@@ -36,10 +37,10 @@ fresh-made =
       entries = empty-full;
     }
 
--- one row put back, and a book
-put-made : (st : Station) (c : ℕ) (row : Row) (b : Book) → WellMade st → isNoChannel c ≡ false → length (row .strings) ≡ 165 → Full b
-    → WellMade (record { rows = set (st .rows) c row; book = b })
-put-made st c row b w e l f =
+-- one row put back, a book and a summary
+put-made : (st : Station) (c : ℕ) (row : Row) (b : Book) (z : Summary) → WellMade st → isNoChannel c ≡ false → length (row .strings) ≡ 165 → Full b
+    → WellMade (record { rows = set (st .rows) c row; book = b; summary = z })
+put-made st c row b z w e l f =
     record { rows = length-set (st .rows) c row ∙ w .rows; strings = λ k d. by k d (eqb k c) refl; entries = f }
   where
     by : (k : ℕ) → isNoChannel k ≡ false → (t : Bool) → eqb k c ≡ t → length (getD (set (st .rows) c row) k noRow .strings) ≡ 165
@@ -58,7 +59,8 @@ offer-made st c epoch s r w o = by (isNoChannel c) refl
     by true e = subst WellMade (sym (o .station ∙ after-none st c epoch s e)) w
     by false e =
         subst WellMade (sym (o .station ∙ after-some st c epoch s e))
-        (put-made st c (offeredRow (rowAt st c) epoch s) (bookAfter (st .book) (rowAt st c) epoch s) w e (offered-long (rowAt st c) epoch s (w .strings c e))
+        (put-made st c (offeredRow (rowAt st c) epoch s) (bookAfter (st .book) (rowAt st c) epoch s) (summaryAfter (st .summary) (st .book) (rowAt st c) epoch s) w e
+        (offered-long (rowAt st c) epoch s (w .strings c e))
         (book (storesIt (frameOf (rowAt st c)) epoch s)))
 
 pub reset-made : (st : Station) (c : ℕ) (r : Emptied) → WellMade st → Resets st c r → WellMade (r .station)
@@ -67,7 +69,7 @@ reset-made st c r w o = by (isNoChannel c) refl
   where
     by : (t : Bool) → isNoChannel c ≡ t → WellMade (r .station)
     by true e = subst WellMade (sym (o .station ∙ reset-none st c e)) w
-    by false e = subst WellMade (sym (o .station ∙ reset-some st c e)) (put-made st c emptyRow (st .book) w e (length-replicate {A = ℕ} 165 0) (w .entries))
+    by false e = subst WellMade (sym (o .station ∙ reset-some st c e)) (put-made st c emptyRow (st .book) (st .summary) w e (length-replicate {A = ℕ} 165 0) (w .entries))
 
 -- so is every station that calls leave
 pub runs-made : (cs : List Call) (st : Station) → Runs cs st → WellMade st

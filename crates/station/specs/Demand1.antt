@@ -20,6 +20,7 @@ use Rattle.records.specs.declared.named.Record.{Record}
 use Rattle.words.specs.declared.reading.Reading.{Reading}
 use Rattle.words.specs.Calls.{readTests, readingPaper, Reads, writeTests, Writes}
 use Rattle.book.specs.Book.{slots}
+use Rattle.summary.specs.declared.Summary.{Summary}
 use Rattle.channel.specs.Offers.{answerPaper, OnlyCounted}
 use Rattle.station.specs.declared.Station.{Station}
 use Rattle.station.specs.declared.Stepped.{Stepped}
@@ -29,7 +30,7 @@ use Rattle.station.specs.declared.EntryFound.{EntryFound}
 use Rattle.station.specs.declared.TalliesFound.{TalliesFound}
 use Rattle.station.specs.declared.HealthFound.{HealthFound}
 use Rattle.station.specs.Station.{channels, rowAt, isNoChannel, stationTests, OffersTo, Resets}
-use Rattle.station.specs.Queries.{recordTests, recordPaper, FindsRecord, entryTests, entryPaper, FindsEntry, talliesPaper, FindsTallies, healthPaper, FindsHealth}
+use Rattle.station.specs.Queries.{recordTests, recordPaper, FindsRecord, entryTests, entryPaper, FindsEntry, talliesPaper, FindsTallies, FindsSummary, healthPaper, FindsHealth}
 
 -- ---- "Every call answers, for every input and every station it is handed"
 -- a call's relation holds of one answer, and of no second
@@ -45,6 +46,7 @@ pub record StationAnswers (st : Station) : Type 0 where
   pub immediate-of : (c : ℕ) → OneAnswer RecordFound (FindsRecord st c)
   pub entry-of : (slot : ℕ) → OneAnswer EntryFound (FindsEntry st slot)
   pub tallies-of : (c : ℕ) → OneAnswer TalliesFound (FindsTallies st c)
+  pub summary-of : OneAnswer Summary (FindsSummary st)
   pub health-of : (c : ℕ) → OneAnswer HealthFound (FindsHealth st c)
 
 -- the calls on strings and records: the answer, and the bytes that are left in an output
@@ -80,10 +82,11 @@ pub record WellMade (st : Station) : Type 0 where
 
 pub record RefusalLeaves (st : Station) (c : ℕ) (st′ : Station) : Type 0 where
   pub book : st′ .book ≡ st .book
+  pub summary : st′ .summary ≡ st .summary
   pub others : (k : ℕ) → (k ≡ c → ⊥) → rowAt st′ k ≡ rowAt st k
   pub own : OnlyCounted (rowAt st c) (rowAt st′ c)
 
--- "CHANNEL changes nothing at all"
+-- "CHANNEL changes nothing at all": rows, book and summary
 pub record ChannelLeaves (st : Station) (c : ℕ) : Type 0 where
   pub offers : (epoch : ℕ) (s : List ℕ) (r : Stepped) → OffersTo st c epoch s r → r .station ≡ st
   pub resets : (r : Emptied) → Resets st c r → r .station ≡ st

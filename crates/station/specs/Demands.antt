@@ -1,6 +1,6 @@
 -- All that the client demands, whole and in the client's order: one record, proved as `demands` in `proofs/Demands.antt`. The words in quotes are the
 -- client's, or the paper's where it says more; what each field says stands in `Demand1`, `Strings`, `Sent`, `EitherWay`, `Words`, `Demand2`, `Demand3`,
--- `Relock` and `Health`.
+-- `Summary`, `Relock` and `Health`.
 -- Assumes nothing.
 use Prim.Native.Nat.{ℕ, _^_, _≤_, _<_}
 use mathlib.Core.Bool.{true, false}
@@ -27,6 +27,7 @@ use Rattle.station.specs.Sent.{SentString, HeardAsSent}
 use Rattle.station.specs.EitherWay.{EitherWay, EveryHistoryAlike}
 use Rattle.station.specs.Demand2.{Tallied, Counted}
 use Rattle.station.specs.Demand3.{Answered, Exchanged, SameCalls, Reordered, SameShown, SameBooks, BookRule}
+use Rattle.station.specs.Summary.{SummaryRule}
 use Rattle.station.specs.Relock.{EveryBeat, Relocked}
 use Rattle.station.specs.Health.{HealthIn, ReservedBit, NeverUsable, RulesDiffer}
 
@@ -85,6 +86,9 @@ pub record AllDemands : Type 0 where
   -- "And at all times an almanac slot holds the greatest entry, by day and then by bits, that any channel has shown since the start, both halves and the
   -- day coming from one frame of one channel; a slot is empty exactly when none was shown."
   pub book : (cs : List Call) (st : Station) → Runs cs st → (slot : ℕ) → 1 ≤ slot → slot ≤ slots → BookRule cs st slot
+  -- ==== request 5: "The summary must equal what the full walk gives, for every station reached from a fresh one. The exchange rule of demand 3 covers the
+  -- summary too.": as part of the whole station it is in `exchange` and `reordering`
+  pub summary : (cs : List Call) (st : Station) → Runs cs st → SummaryRule cs st
   -- ==== the paper: "After a string is taken at epoch e, frames at a steady 15-epoch beat are heard again"
   pub every-beat : EveryBeat
   pub relock : (st : Station) (c : ℕ) (taken : Heard) (r : Stepped) → WellMade st → isNoChannel c ≡ false

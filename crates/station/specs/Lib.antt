@@ -14,5 +14,6 @@ pub mod Demand2
 pub mod Demand3
 pub mod Relock
 pub mod Health
+pub mod Summary
 pub mod Demands
 pub mod Known

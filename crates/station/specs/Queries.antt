@@ -1,4 +1,4 @@
--- What a station answers when it is asked (the paper: "Queries: 1 or 14, then 13", and "Health").
+-- What a station answers when it is asked (the paper: "Queries: 1 or 14, then 13", and "Health"; request 5).
 -- Assumes nothing.
 use Prim.Native.Nat.{ℕ, _*_, _^_}
 use mathlib.Core.Bool.{Bool, not, _&&_}
@@ -14,6 +14,7 @@ use Rattle.book.specs.declared.Entry.{Entry}
 use Rattle.book.specs.declared.Book.{Book}
 use Rattle.book.specs.Entry.{Three, meaning}
 use Rattle.book.specs.Book.{slots, inSlot}
+use Rattle.summary.specs.declared.Summary.{Summary}
 use Rattle.immediate.specs.declared.Immediate.{Immediate}
 use Rattle.tallies.specs.declared.Tallies.{Tallies}
 use Rattle.immediate.specs.Kept.{hasRecord}
@@ -81,6 +82,10 @@ talliesPaper (NoTallies q) = refusalPaper q
 
 unfoldable pub FindsTallies : Station → ℕ → TalliesFound → Type 0
 FindsTallies st c r = talliesPaper r ≡ answerOf (channelTests c) (fourCounts (rowAt st c .tallies))
+
+-- ---- the summary, which is never refused: "how many slots are filled, the oldest day and the newest", as the station keeps it
+abbrev pub FindsSummary : Station → Summary → Type 0
+FindsSummary st r = r ≡ st .summary
 
 -- ---- health: 1
 -- "the top bit of B": bit 80 of string 2

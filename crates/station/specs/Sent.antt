@@ -58,6 +58,7 @@ talliesAt st c = rowAt st c .tallies
 
 pub record SameButVerdict (before : Station) (c : ℕ) (clean repaired : Station) : Type 0 where
   pub book : repaired .book ≡ clean .book
+  pub summary : repaired .summary ≡ clean .summary
   pub others : (k : ℕ) → (k ≡ c → ⊥) → rowAt repaired k ≡ rowAt clean k
   pub strings : rowAt repaired c .strings ≡ rowAt clean c .strings
   pub start : rowAt repaired c .start ≡ rowAt clean c .start

@@ -1,8 +1,8 @@
--- A station: 24 rows and one book, and what an offer and a reset make of it (the paper, "Frames and the book" and "Numbers that say no"). For every
--- station value.
+-- A station: 24 rows, one book and its summary, and what an offer and a reset make of it (the paper, "Frames and the book" and "Numbers that say no";
+-- request 5). For every station value.
 -- Assumes nothing.
 use Prim.Native.Nat.{ℕ, _-_}
-use mathlib.Core.Bool.{Bool}
+use mathlib.Core.Bool.{Bool, _&&_}
 use mathlib.Core.List.{List, [], _∷_}
 use mathlib.Core.Path.{_≡_}
 use lib.Dec.{ltb}
@@ -12,12 +12,14 @@ use Rattle.strings.specs.Numbers.{Test, test, answerOf}
 use Rattle.strings.specs.Calls.{writtenPaper}
 use Rattle.book.specs.declared.Book.{Book}
 use Rattle.book.specs.Book.{emptyBook}
+use Rattle.summary.specs.declared.Summary.{Summary}
+use Rattle.summary.specs.Walk.{noneFilled, walkOf}
 use Rattle.channel.specs.declared.Row.{Row}
 use Rattle.tallies.specs.Tallies.{noneCounted}
 use Rattle.channel.specs.Frame.{Frame}
 use Rattle.channel.specs.Row.{frameOf, emptyRow}
 use Rattle.channel.specs.Offers.{answerPaper, offerTests, toldTo, offeredRow, storesIt}
-use Rattle.shows.specs.Shows.{showsOf, brought}
+use Rattle.shows.specs.Shows.{showsOf, brought, changes}
 use Rattle.station.specs.declared.Station.{Station}
 use Rattle.station.specs.declared.Stepped.{Stepped}
 use Rattle.station.specs.declared.Emptied.{Emptied}
@@ -29,9 +31,9 @@ channels = 24
 abbrev pub lastChannel : ℕ
 lastChannel = channels - 1
 
--- "A fresh station is all empty"
+-- "A fresh station is all empty", and "an empty book has count 0 and both days 0"
 unfoldable pub freshStation : Station
-freshStation = record { rows = replicate channels emptyRow; book = emptyBook }
+freshStation = record { rows = replicate channels emptyRow; book = emptyBook; summary = noneFilled }
 
 -- past the rows stands a row of nothing, which no call looks at
 unfoldable pub noRow : Row
@@ -64,19 +66,34 @@ toldIn st c epoch s = toldTo (heldAt st c) epoch s
 abbrev pub bookAfter : Book → Row → ℕ → List ℕ → Book
 bookAfter b row epoch s = pick (storesIt (frameOf row) epoch s) (brought b (showsOf (frameOf (offeredRow row epoch s)))) b
 
--- "CHANNEL changes nothing at all"; any other offer changes its channel's row, and the book
+-- an entry of it changes: something that the string's frame then shows stands above what its slot holds
+abbrev pub entryChanges : Book → Row → ℕ → List ℕ → Bool
+entryChanges b row epoch s = storesIt (frameOf row) epoch s && changes b (showsOf (frameOf (offeredRow row epoch s)))
+
+-- "Keep a summary beside the book, corrected at each change of an entry": it is the walk of the new book, and else it stays
+abbrev pub corrected : Bool → Book → Summary → Summary
+corrected changed b old = pick changed (walkOf (b .entries)) old
+
+abbrev pub summaryAfter : Summary → Book → Row → ℕ → List ℕ → Summary
+summaryAfter old b row epoch s = corrected (entryChanges b row epoch s) (bookAfter b row epoch s) old
+
+-- "CHANNEL changes nothing at all"; any other offer changes its channel's row, the book and the summary
 unfoldable pub stationAfter : Station → ℕ → ℕ → List ℕ → Station
 stationAfter st c epoch s =
     pick (isNoChannel c) st
-    (record { rows = set (st .rows) c (offeredRow (rowAt st c) epoch s); book = bookAfter (st .book) (rowAt st c) epoch s })
+    (record {
+      rows = set (st .rows) c (offeredRow (rowAt st c) epoch s);
+      book = bookAfter (st .book) (rowAt st c) epoch s;
+      summary = summaryAfter (st .summary) (st .book) (rowAt st c) epoch s;
+    })
 
 pub record OffersTo (st : Station) (c epoch : ℕ) (s : List ℕ) (r : Stepped) : Type 0 where
   pub answer : answerPaper (r .answer) ≡ answerOf (stationTests st c epoch s) (toldIn st c epoch s)
   pub station : r .station ≡ stationAfter st c epoch s
 
--- ---- "Reset: 1". "A reset empties the row, record and tallies; the book stays"
+-- ---- "Reset: 1". "A reset empties the row, record and tallies; the book stays", and its summary
 unfoldable pub stationReset : Station → ℕ → Station
-stationReset st c = pick (isNoChannel c) st (record { rows = set (st .rows) c emptyRow; book = st .book })
+stationReset st c = pick (isNoChannel c) st (record { rows = set (st .rows) c emptyRow; book = st .book; summary = st .summary })
 
 pub record Resets (st : Station) (c : ℕ) (r : Emptied) : Type 0 where
   pub answer : writtenPaper (r .answer) ≡ answerOf (channelTests c) []

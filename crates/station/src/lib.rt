@@ -1,5 +1,5 @@
-// The station: 24 rows and one book. Strings go in by channel; the book, the records, the tallies and
-// the health of a satellite come out.
+// The station: 24 rows, one book and its summary. Strings go in by channel; the book, what it holds in
+// short, the records, the tallies and the health of a satellite come out.
 mod offering;
 mod queries;
 
@@ -8,15 +8,18 @@ use book::Entry;
 use channel::Answer;
 use channel::Row;
 pub use offering::fresh;
+pub use offering::next_summary;
 pub use offering::offer;
 pub use offering::reset;
 pub use queries::entry_of;
 pub use queries::health_of;
 pub use queries::immediate_of;
+pub use queries::summary_of;
 pub use queries::tallies_of;
 use records::ImmediateWords;
 use strings::Refusal;
 use strings::Written;
+use summary::Summary;
 use tallies::Tallies;
 
 // How many channels a station has.
@@ -25,11 +28,13 @@ pub const CHANNELS: usize = 24;
 // The highest channel.
 pub const LAST_CHANNEL: u8 = (CHANNELS - 1) as u8;
 
-// All that the card knows: a row for each channel, and the almanac book that they share.
+// All that the card knows: a row for each channel, the almanac book that they share, and the book's
+// summary.
 #[repr(C)]
 pub struct Station {
     pub rows: [Row; CHANNELS],
     pub book: Book,
+    pub summary: Summary,
 }
 
 // An offer's answer, and the station after it.

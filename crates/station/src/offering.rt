@@ -10,15 +10,19 @@ use channel::Answer;
 use channel::Row;
 use channel::empty_row;
 use channel::is_stored;
+use shows::Brought;
 use shows::bring;
 use strings::Refusal;
 use strings::Written;
+use summary::Summary;
+use summary::walk_book;
 ghost use mathlib.Core.Path.{_≡_};
+ghost use mathlib.Core.Bool.{_&&_};
 ghost use Rattle.channel.specs.Row.{frameOf};
-ghost use Rattle.shows.specs.Shows.{showsOf, brought};
+ghost use Rattle.shows.specs.Shows.{showsOf, brought, changes};
 ghost use Rattle.channel.specs.Offers.{isStored};
 ghost use Rattle.strings.specs.Pick.{pick};
-ghost use Rattle.station.specs.Station.{freshStation, OffersTo, Resets};
+ghost use Rattle.station.specs.Station.{freshStation, corrected, OffersTo, Resets};
 
 // A station that has heard nothing.
 pub fn fresh() -> Station
@@ -26,9 +30,15 @@ pub fn fresh() -> Station
 {
     let row = empty_row();
     let rows = [row; CHANNELS];
+    let none = Summary {
+        count: 0,
+        oldest: 0,
+        newest: 0,
+    };
     Station {
         rows,
         book: empty_book(),
+        summary: none,
     }
 }
 
@@ -49,22 +59,45 @@ pub fn offer(mut st: Station, channel: u8, epoch: u32, s: &[u8]) -> Stepped
     let answer = offered.answer;
     st.rows[i] = next;
     let book = st.book;
-    let joined = bring_if(answer, next, book);
+    let brought = bring_if(answer, next, book);
+    let joined = brought.book;
     st.book = joined;
+    let old = st.summary;
+    let kept = next_summary(brought.changed, joined, old);
+    st.summary = kept;
     Stepped {
         station: st,
         answer,
     }
 }
 
-// A string newly stored brings all that its frame then shows to the book.
-fn bring_if(answer: Answer, row: Row, b: Book) -> Book
-    ensures { λ r. ⌜ r ≡ pick (isStored answer) (brought b (showsOf (frameOf row))) b ⌝ }
+// A string newly stored brings all that its frame then shows to the book; without one nothing
+// changes.
+fn bring_if(answer: Answer, row: Row, b: Book) -> Brought
+    ensures { λ r. ⌜ (r .book ≡ pick (isStored answer) (brought b (showsOf (frameOf row))) b) × (r .changed ≡ (isStored answer && changes b (showsOf (frameOf row)))) ⌝ }
 {
-    if is_stored(answer) { bring(row, b) } else { b }
+    if is_stored(answer) {
+        bring(row, b)
+    } else {
+        Brought {
+            book: b,
+            changed: false,
+        }
+    }
 }
 
-// Empties a channel's row, its record and its tallies. The book stays.
+// The summary of a book where an entry of it changed: a walk, and no walk where none did.
+pub fn next_summary(changed: bool, b: Book, old: Summary) -> Summary
+    ensures { λ r. ⌜ r ≡ corrected changed b old ⌝ }
+{
+    if !changed {
+        return old;
+    }
+    let entries = b.entries;
+    walk_book(entries)
+}
+
+// Empties a channel's row, its record and its tallies. The book and its summary stay.
 pub fn reset(mut st: Station, channel: u8) -> Emptied
     ensures { λ r. ⌜ Resets st channel r ⌝ }
 {

@@ -12,11 +12,12 @@ use book::entry_in;
 use immediate::Immediate;
 use immediate::has_record;
 use strings::Refusal;
+use summary::Summary;
 use words::immediate_words;
 use words::word_in;
 ghost use mathlib.Core.Path.{_≡_};
 ghost use Prim.Native.Nat.{_/_, _%_};
-ghost use Rattle.station.specs.Queries.{FindsRecord, FindsEntry, FindsTallies, FindsHealth, healthBy, lOf, modelOf, lCounted, judged};
+ghost use Rattle.station.specs.Queries.{FindsRecord, FindsEntry, FindsTallies, FindsSummary, FindsHealth, healthBy, lOf, modelOf, lCounted, judged};
 
 // The words of a channel's immediate record.
 pub fn immediate_of(st: Station, channel: u8) -> RecordFound
@@ -64,6 +65,14 @@ pub fn tallies_of(st: Station, channel: u8) -> TalliesFound
     let row = st.rows[i];
     let t = row.tallies;
     TalliesFound::Found(t)
+}
+
+// How many slots are filled, the oldest day and the newest: as kept, with no walk.
+pub fn summary_of(st: Station) -> Summary
+    ensures { λ r. ⌜ FindsSummary st r ⌝ }
+{
+    let s = st.summary;
+    s
 }
 
 // The health of the satellite that a channel's record is of.

@@ -39,7 +39,8 @@ pub fn records() -> Vec<Record> {
     story.records
 }
 
-/// The records as offers, then queries of their channels and of every slot.
+/// The records as offers, then queries of their channels, of every slot and of the
+/// summary.
 pub(super) fn add_all(input: &mut Input) {
     for record in records() {
         input.offer_record(&record);
@@ -48,6 +49,7 @@ pub(super) fn add_all(input: &mut Input) {
         input.ask_channel(channel);
     }
     input.ask_slots(1..=SLOTS);
+    input.ask_summary();
 }
 
 struct Story {

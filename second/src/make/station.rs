@@ -10,6 +10,7 @@ pub(super) mod polarity;
 mod record;
 mod refusals;
 mod sky;
+pub(super) mod summary;
 pub(super) mod tallies;
 
 use super::hearing::in_some_polarity;
@@ -80,7 +81,7 @@ impl Input {
         }
     }
 
-    /// The whole station, as far as queries tell of it.
+    /// Every channel and every slot.
     fn ask_all(&mut self) {
         for channel in 0..CHANNELS {
             self.ask_channel(channel as u8);

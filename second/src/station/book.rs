@@ -47,6 +47,15 @@ impl Entry {
     }
 }
 
+/// "How many slots are filled, the oldest day and the newest." "An empty book has count
+/// 0 and both days 0."
+#[derive(Clone, Copy, Debug, PartialEq, Eq)]
+pub struct Summary {
+    pub count: usize,
+    pub oldest: i64,
+    pub newest: i64,
+}
+
 /// The entry of slot s, if one was shown, is `slots[s - 1]`.
 #[derive(Clone, Debug, Default, PartialEq, Eq)]
 pub struct Book {
@@ -65,5 +74,16 @@ impl Book {
         let index = slot.checked_sub(1).ok_or(Refusal::Slot)?;
         let entry = self.slots.get(index).ok_or(Refusal::Slot)?;
         entry.ok_or(Refusal::Nothing)
+    }
+
+    /// Nothing is kept for it: it is a walk over all slots each time.
+    pub fn summary(&self) -> Summary {
+        let entries = self.slots.iter().flatten();
+        let days: Vec<i64> = entries.map(|entry| entry.day).collect();
+        Summary {
+            count: days.len(),
+            oldest: days.iter().min().copied().unwrap_or(0),
+            newest: days.iter().max().copied().unwrap_or(0),
+        }
     }
 }

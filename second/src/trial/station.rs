@@ -1,7 +1,8 @@
-//! Requests 6 to 12 and 23: the station's calls.
+//! Requests 6 to 12, 14 and 23: the station's calls.
 
 use super::{in_decimal, Answer};
 use crate::refusal::Refusal;
+use crate::station::book::Summary;
 use crate::station::row::{News, Taken};
 use crate::station::{Health, Station};
 
@@ -85,11 +86,24 @@ fn health_number(health: Health) -> u8 {
 }
 
 pub fn fresh(station: &mut Station, payload: &[u8]) -> Option<Answer> {
-    if !payload.is_empty() {
-        return None;
-    }
+    no_byte(payload)?;
     *station = Station::default();
     Some(Ok(String::from("ok")))
+}
+
+/// Count, oldest day, newest day.
+pub fn summary(station: &Station, payload: &[u8]) -> Option<Answer> {
+    no_byte(payload)?;
+    let Summary {
+        count,
+        oldest,
+        newest,
+    } = station.summary();
+    Some(Ok(format!("ok {count} {oldest} {newest}")))
+}
+
+fn no_byte(payload: &[u8]) -> Option<()> {
+    payload.is_empty().then_some(())
 }
 
 /// A channel or a slot, and nothing after it.

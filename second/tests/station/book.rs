@@ -20,12 +20,6 @@ fn slots(station: &Station) -> Vec<usize> {
         .collect()
 }
 
-/// Offers three strings in one frame on a channel that holds nothing else.
-fn show(station: &mut Station, channel: usize, strings: &[NavString]) {
-    station.reset(channel).unwrap();
-    take_all(station, channel, 100, strings);
-}
-
 /// A frame with five pairs; string 6 has the slot `first`.
 fn frame(first: i64) -> Vec<NavString> {
     let mut strings = vec![string_5(6, 100)];

@@ -1,4 +1,5 @@
-//! The station: frames, record, book, health, tallies, blocks, and the listing over it.
+//! The station: frames, record, book, its summary, health, tallies, blocks, and the listing
+//! over it.
 
 mod block;
 mod book;
@@ -12,4 +13,6 @@ mod record;
 mod refusals;
 mod relock;
 mod strings;
+mod summary;
+mod summary_asked;
 mod tallies;

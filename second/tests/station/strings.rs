@@ -87,6 +87,12 @@ pub fn take_all(station: &mut Station, channel: usize, start: u32, strings: &[Na
     }
 }
 
+/// Offers three strings in one frame on a channel that holds nothing else.
+pub fn show(station: &mut Station, channel: usize, strings: &[NavString]) {
+    station.reset(channel).unwrap();
+    take_all(station, channel, 100, strings);
+}
+
 pub fn station_with_received_frame(channel: usize) -> Station {
     let mut station = Station::default();
     take_all(&mut station, channel, 100, &received_frame());

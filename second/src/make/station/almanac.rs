@@ -24,6 +24,11 @@ pub(super) fn add_all(input: &mut Input) {
 /// String 5 and the pair of strings 6 and 7.
 pub(super) type Three = [NavString; 3];
 
+/// The same pair, shown on this day.
+pub(super) fn dated([string_5, even, odd]: Three, day: Day) -> Three {
+    [on_day(&string_5, day), even, odd]
+}
+
 impl Input {
     /// Five frames on one channel, then the same on another: all 24 slots.
     fn superframe(&mut self) {
@@ -93,14 +98,19 @@ impl Input {
         [upload.string_5, with_m(&even, 6), with_m(&odd, 7)]
     }
 
-    /// Shows the three on a channel that holds nothing else, as the pair 2k, 2k + 1.
+    /// Shows the three on a channel that holds nothing else.
     pub(super) fn show(&mut self, channel: u8, three: &Three) {
+        self.reset(channel);
+        let strings = self.as_some_pair(three);
+        self.offer_in_frame(channel, SOME_START, &strings);
+    }
+
+    /// The three in some order, the halves as strings 2k and 2k + 1.
+    pub(super) fn as_some_pair(&mut self, three: &Three) -> Vec<NavString> {
         let m = 6 + 2 * self.random.below(4);
         let [string_5, even, odd] = *three;
-        self.reset(channel);
         let strings = [string_5, with_m(&even, m), with_m(&odd, m + 1)];
-        let strings = self.shuffled(strings.to_vec());
-        self.offer_in_frame(channel, SOME_START, &strings);
+        self.shuffled(strings.to_vec())
     }
 
     /// Periods 0, 1, 31 and days 0, 1, 1461, 1462 with their neighbours: each into a
@@ -113,17 +123,16 @@ impl Input {
         }
         for &day in &days {
             self.fresh();
-            self.show_on_day(&three, day);
+            self.show_on_day(three, day);
         }
         self.fresh();
         for day in self.shuffled(days) {
-            self.show_on_day(&three, day);
+            self.show_on_day(three, day);
         }
     }
 
-    fn show_on_day(&mut self, three: &Three, day: Day) {
-        let [string_5, even, odd] = *three;
-        self.show(5, &[on_day(&string_5, day), even, odd]);
+    fn show_on_day(&mut self, three: Three, day: Day) {
+        self.show(5, &dated(three, day));
         self.ask_slots([8]);
     }
 
@@ -148,12 +157,12 @@ impl Input {
             self.fresh();
             let day = self.some_day();
             for channel in 0..8 {
-                let [string_5, even, odd] = self.three(9);
+                let three = self.three(9);
                 let day = match channel {
                     6 => day_after(day),
                     _ => day,
                 };
-                self.show(channel, &[on_day(&string_5, day), even, odd]);
+                self.show(channel, &dated(three, day));
                 self.ask_slots([9]);
             }
         }

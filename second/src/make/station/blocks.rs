@@ -14,6 +14,9 @@ use crate::string::NavString;
 const CHANNELS_IN_USE: [u8; 5] = [0, 1, 2, 3, 23];
 const SLOTS_IN_USE: [usize; 6] = [1, 2, 3, 4, 5, 6];
 
+/// "Twelve strings a second in all."
+pub(super) const CALLS_A_SECOND: usize = 12;
+
 pub(in super::super) fn add_all(input: &mut Input) {
     calls::add_all(input);
     refused_fields::add_all(input);
@@ -21,7 +24,7 @@ pub(in super::super) fn add_all(input: &mut Input) {
 
 /// What is a field of a block, and without a block a request of its own.
 #[derive(Clone)]
-enum Call {
+pub(super) enum Call {
     Offer(Record),
     Reset {
         channel: u8,
@@ -40,16 +43,16 @@ impl Call {
     }
 }
 
-fn block_of(calls: &[Call]) -> Vec<u8> {
+pub(super) fn block_of(calls: &[Call]) -> Vec<u8> {
     calls.iter().flat_map(Call::field).collect()
 }
 
 impl Input {
-    fn block(&mut self, block: &[u8]) {
+    pub(super) fn block(&mut self, block: &[u8]) {
         self.request(BLOCK, block);
     }
 
-    fn one_by_one(&mut self, calls: &[Call]) {
+    pub(super) fn one_by_one(&mut self, calls: &[Call]) {
         for call in calls {
             match call {
                 Call::Offer(record) => self.offer_record(record),
@@ -70,7 +73,7 @@ impl Input {
     }
 
     /// As strings of the frame with this start.
-    fn offers(&mut self, channel: u8, start: u32, strings: &[NavString]) -> Vec<Call> {
+    pub(super) fn offers(&mut self, channel: u8, start: u32, strings: &[NavString]) -> Vec<Call> {
         strings
             .iter()
             .map(|string| self.offer_call(channel, start + string.m() as u32 - 1, string))

@@ -15,7 +15,7 @@ pub(super) fn add_all(input: &mut Input) {
 }
 
 impl Input {
-    fn feed(&mut self, channels: usize) -> Feed {
+    pub(super) fn feed(&mut self, channels: usize) -> Feed {
         Feed::new(self.random.number(), channels as u8)
     }
 
@@ -62,18 +62,23 @@ impl Input {
         self.offer_symbols(record.channel, record.epoch, &symbols);
     }
 
-    /// The same offers to two stations, the second time with neighbours on
-    /// different channels exchanged again and again.
+    /// The same offers to two stations, the second time with neighbours exchanged.
     fn calls_exchanged(&mut self, count: usize) {
         let mut records: Vec<Record> = self.feed(CHANNELS).skip(2000).take(count).collect();
         self.offer_to_fresh_station(&records);
+        self.exchange_neighbours(&mut records);
+        self.offer_to_fresh_station(&records);
+    }
+
+    /// Those on different channels change places, again and again.
+    pub(super) fn exchange_neighbours(&mut self, records: &mut [Record]) {
+        let count = records.len();
         for _ in 0..20 * count {
             let first = self.random.below(count - 1);
             if records[first].channel != records[first + 1].channel {
                 records.swap(first, first + 1);
             }
         }
-        self.offer_to_fresh_station(&records);
     }
 
     fn offer_to_fresh_station(&mut self, records: &[Record]) {

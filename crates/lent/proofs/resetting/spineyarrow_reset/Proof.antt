@@ -46,6 +46,7 @@ use denote.Triple.Walked.{says, Stays, stay-ref, stay-dropped, walkOf, goes-ref,
 use denote.Exit.{yes}
 use denote.Triple.Clauses.{lasts}
 use Rattle.book.proofs.Book.Laws as BK′
+use Rattle.summary.proofs.Summary.Laws as SM′
 use Rattle.channel.specs.declared.Row.{Row}
 use Rattle.channel.specs.Row.{emptyRow}
 use Rattle.channel.proofs.Row as RW
@@ -61,7 +62,7 @@ use Rattle.station.proofs.Station.Laws as ST′
 use Rattle.lent.specs.Lent.{ResetsLent}
 use Rattle.lent.proofs.Channel.{isPast, past, within}
 use Rattle.lent.proofs.Item.{map-set, either-way, lows-set, low-item}
-use Rattle.lent.proofs.Parts.{rowBytes, rowsVal, stationVal, rows-of, book-of, made-of}
+use Rattle.lent.proofs.Parts.{rowBytes, rowsVal, stationVal, rows-of, book-of, summary-of, made-of}
 use Rattle.lent.proofs.Walk.{free-all, local-of, sets, asks}
 use Rattle.lent.proofs.resetting.spineyarrow_reset.Key.{name as #lent·spineyarrow-reset}
 use Rattle.lent.proofs.resetting.spineyarrow_reset as lent
@@ -73,7 +74,7 @@ stayed = (stay-ref (0 ∷ []) tt (plain (λ _. ST.the-row)), (stay-dropped (plai
 
 -- ---- the contract, from what became of the row
 abbrev left : Station → ℕ → Row → Station
-left st c r = record { rows = set (st .rows) c r; book = st .book }
+left st c r = record { rows = set (st .rows) c r; book = st .book; summary = st .summary }
 
 refused-lent : (st : Station) (c : ℕ) → T (isPast c) → ResetsLent st c st 1
 unfolding stationReset
@@ -137,9 +138,9 @@ module _ {M : Type 1} (𝓤 : URA M) (H : Heap 𝓤) (A : Atoms 𝓤) (W : Given
   in-bytes : T (not (isPast c)) → c * rowBytes < 2 ^ 64
   in-bytes f = omega (arith, served f)
 
-  left-is : (r : Row) → Whole → Is RW.the-row r (RW′.lowered r ∷ []) → Is ST.the-row (left h c r) (stationVal (rowsVal (set (h .rows) c r)) (BK′.lowered (h .book)) ∷ [])
+  left-is : (r : Row) → Whole → Is RW.the-row r (RW′.lowered r ∷ []) → Is ST.the-row (left h c r) (stationVal (rowsVal (set (h .rows) c r)) (BK′.lowered (h .book)) (SM′.lowered (h .summary)) ∷ [])
   left-is r ih ir =
-      made-of (set (h .rows) c r) (h .book) (length-set (h .rows) c r ∙ rows-of h _ ih .0, lows-set RW.the-type RW′.lowers (h .rows) c r ir (rows-of h _ ih .1)) (book-of h _ ih)
+      made-of (set (h .rows) c r) (h .book) (h .summary) (length-set (h .rows) c r ∙ rows-of h _ ih .0, lows-set RW.the-type RW′.lowers (h .rows) c r ir (rows-of h _ ih .1)) (book-of h _ ih) (summary-of h _ ih)
 
   module _ (C : Calls 𝓤 H) (Λ : Loops 𝓤 H) (fm : FmC 𝓤 H (W .laws) C) (known-empty : Triple 𝓤 (C #channel·empty-row) (Empty 𝓤 H A at-mem run)) (gc : c < 2 ^ 8) where
     walk : ent 𝓤 (onEntry 𝓤 H A lent.signature (κ, tt) (q, tt) x at) (WpFn 𝓤 H C Λ code.function (vptr b o ∷ vint w8 c ∷ []) Post)
@@ -156,7 +157,7 @@ module _ {M : Type 1} (𝓤 : URA M) (H : Heap 𝓤) (A : Atoms 𝓤) (W : Given
         (λ n. fsplit3 ! $ drop ! $
         opens ! tt ST.the-row {h = h} b o (λ vs. spelt ! ST.the-row (Is ST.the-row) (shows 𝓤 H A ST.the-row) (λ d. ST′.lowered d ∷ []) (ST′.lowers .val-is) fullShare h vs b o $
         move ! (1 ∷ []) $ facts ! ST.the-row (Is ST.the-row) (shows 𝓤 H A ST.the-row) h (ST′.lowered h ∷ []) (λ ih.
-        use1 W (‵ (fat fullShare ST′.mir b o (stationVal (rowsVal (h .rows)) (BK′.lowered (h .book))))) (W .laws .raw-at fullShare ST′.mir b o (ST′.lowered h)) $
+        use1 W (‵ (fat fullShare ST′.mir b o (stationVal (rowsVal (h .rows)) (BK′.lowered (h .book)) (SM′.lowered (h .summary))))) (W .laws .raw-at fullShare ST′.mir b o (ST′.lowered h)) $
         -- [the station's cell; the open borrow; obs; auth; _8; …; _0; …]: local i is at 20 - 2 · i
         sets ! (un ! (local-of ! 16 refl refl) (record { fits = wide n })) 14 refl refl (tt, record { fits = wide n }) $
         asks ! fm (Empty 𝓤 H A at-mem run) known-empty to-empty goes-empty RW.the-row (λ d. RW′.lowered d) (RW′.lowers .val-is) (λ r. r ≡ emptyRow) _ (lasts empty′.ended tt tt) (λ u. id⊢ 𝓤 _)
@@ -167,9 +168,9 @@ module _ {M : Type 1} (𝓤 : URA M) (H : Heap 𝓤) (A : Atoms 𝓤) (W : Given
         sets ! (bin ! (local-of ! 6 refl refl) (local-of ! 8 refl refl) tt) 4 refl refl (tt, tt) $
         rewrite ! 4 (λ (z : ℕ). ‵ (fat fullShare tyPtr l₈ 0 (vptr b z))) (sym (place-is rowBytes (o + 0) c)) refl $
         assigns ! (of-opd ! (local-of ! 10 refl refl)) (from ! (hop ! (look ! 4 refl) (stop !))) (store-in ! 0 (low-item ! RW.the-type RW′.lowers (h .rows) (rows-of h _ ih) c (served n) noRow (sub ! 0 refl (whole !))) (row-typed r ir)) $
-        rewrite ! 0 (λ (ws : List Val). ‵ (fat fullShare ST′.mir b o (stationVal (arrayVal ws) (BK′.lowered (h .book))))) (map-set RW′.lowered (h .rows) c r) refl $
-        use1 W (‵ (cellAt fullShare (ST.the-row .mir) (stationVal (rowsVal (set (h .rows) c r)) (BK′.lowered (h .book)) ∷ []) b o)) (W .laws .at-raw fullShare ST′.mir b o (stationVal (rowsVal (set (h .rows) c r)) (BK′.lowered (h .book)))) $
-        owned ! ST.the-row (Is ST.the-row) (LL.makes ST.the-type ST′.the-plain 𝓤 H A) (left h c r) _ (left-is r ih ir) $ move ! (1 ∷ 0 ∷ []) $ closes ! tt ST.the-row (left h c r) (stationVal (rowsVal (set (h .rows) c r)) (BK′.lowered (h .book)) ∷ []) b o $
+        rewrite ! 0 (λ (ws : List Val). ‵ (fat fullShare ST′.mir b o (stationVal (arrayVal ws) (BK′.lowered (h .book)) (SM′.lowered (h .summary))))) (map-set RW′.lowered (h .rows) c r) refl $
+        use1 W (‵ (cellAt fullShare (ST.the-row .mir) (stationVal (rowsVal (set (h .rows) c r)) (BK′.lowered (h .book)) (SM′.lowered (h .summary)) ∷ []) b o)) (W .laws .at-raw fullShare ST′.mir b o (stationVal (rowsVal (set (h .rows) c r)) (BK′.lowered (h .book)) (SM′.lowered (h .summary)))) $
+        owned ! ST.the-row (Is ST.the-row) (LL.makes ST.the-type ST′.the-plain 𝓤 H A) (left h c r) _ (left-is r ih ir) $ move ! (1 ∷ 0 ∷ []) $ closes ! tt ST.the-row (left h c r) (stationVal (rowsVal (set (h .rows) c r)) (BK′.lowered (h .book)) (SM′.lowered (h .summary)) ∷ []) b o $
         feqI ! (List Val) (vptr b o ∷ []) (vptr b o ∷ []) refl $ fjoin3 ! $
         -- [the reference; its token; _8; …; _0; …]
         sets ! (of-opd ! (lit ! tt)) 18 refl refl (tt, record { fits = lit< tt }) $ returns ! (look ! 18 refl) $

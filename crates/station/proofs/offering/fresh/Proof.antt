@@ -1,7 +1,8 @@
--- `offering::fresh` meets its contract: empty rows and an empty book. Assumes nothing.
+-- `offering::fresh` meets its contract: empty rows, an empty book and its summary. Assumes nothing.
 use mathlib.Core.Path.{ap₂}
 use lib.ListN.{replicate}
 use Rattle.book.specs.declared.Book.{Book}
+use Rattle.summary.specs.Walk.{noneFilled}
 use Rattle.channel.specs.declared.Row.{Row}
 use Rattle.station.specs.Station.{channels, freshStation}
 use borrow.Author.Needs.{needs}
@@ -15,8 +16,9 @@ empty-book-requires : tie.Need-empty-book-requires
 empty-book-requires c κs = search needs
 
 returns : tie.Need-returns
-unfolding freshStation
-returns c = ap₂ (λ (x : Row) (b : Book). record { rows = replicate channels x; book = b }) (c .before .empty-row .ensures) (c .empty-book .ensures)
+unfolding freshStation noneFilled
+returns c =
+    ap₂ (λ (x : Row) (b : Book). record { rows = replicate channels x; book = b; summary = noneFilled }) (c .before .empty-row .ensures) (c .empty-book .ensures)
 
 pub fresh-spec : {M : Type 1} → statement M
 fresh-spec = tie.close (tie.spec empty-row-requires empty-book-requires returns)

@@ -1,4 +1,4 @@
--- `offering::offer` meets its contract: the row taken out, offered the string and put back, and the book. Assumes nothing.
+-- `offering::offer` meets its contract: the row taken out, offered the string and put back, the book and its summary. Assumes nothing.
 use denote.Ref.{now}
 use Rattle.station.specs.Station.{noRow}
 use Rattle.station.proofs.AfterOffer.{no-channel, after-offer}
@@ -27,13 +27,17 @@ element-set-from-next c = search needs
 bring-if-requires : tie.Need-bring-if-requires
 bring-if-requires c κs = search needs
 
+next-summary-requires : tie.Need-next-summary-requires
+next-summary-requires c κs = search needs
+
 returns-2 : tie.Need-returns-2
 unfolding noRow
 returns-2 c =
-    let p = c .before .before .before in
+    let b = c .before .before .before .bring-if in
+    let p = c .before .before .before .before .before .before in
     let a = p .before .before .before .before .args in
-    after-offer (a .t1) (a .channel) (a .epoch) (now (a .s)) (p .offer .result) (c .bring-if .result) (p .before .before .if1 .left) (p .offer .ensures)
-    (c .bring-if .ensures)
+    after-offer (a .t1) (a .channel) (a .epoch) (now (a .s)) (p .offer .result) (b .result .book) (b .result .changed) (c .next-summary .result)
+    (p .before .before .if1 .left) (p .offer .ensures) (b .ensures .0) (b .ensures .1) (c .next-summary .ensures)
 
 pub offer-spec : {M : Type 1} → statement M
 offer-spec =
@@ -46,4 +50,5 @@ offer-spec =
     mul-next
     element-set-from-next
     bring-if-requires
+    next-summary-requires
     returns-2)

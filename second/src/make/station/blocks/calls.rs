@@ -5,7 +5,7 @@ use super::super::super::field_feed::FieldFeed;
 use super::super::super::Input;
 use super::super::refusals::WRONG_CHANNELS;
 use super::super::{NEXT_START, SOME_START};
-use super::{block_of, Call};
+use super::{block_of, Call, CALLS_A_SECOND};
 use crate::alter::{codes_out_of_range, with_bit_inverted, with_code, with_m};
 use crate::block::field;
 use crate::known;
@@ -18,9 +18,6 @@ use crate::words::kinds::TK;
 const LONG_REMARK: usize = 60_000;
 const LONGEST_PAYLOAD: usize = u16::MAX as usize;
 const HEADER_OF_A_FIELD: usize = 3;
-
-/// "Twelve strings a second in all."
-const CALLS_A_SECOND: usize = 12;
 
 pub(super) fn add_all(input: &mut Input) {
     input.empty_blocks();
@@ -103,11 +100,13 @@ impl Input {
         self.in_both_ways(&before, &calls);
     }
 
-    /// By 1, 2, 31 to 33 and 4 to 9, where this string 1 is held on channel 0.
-    fn refused_offers(&mut self, held: &NavString) -> Vec<Call> {
+    /// By 1, 2, 31 to 33 and 4 to 9, where this string is held on channel 0, in the frame
+    /// at SOME_START. The last one is in conflict with it.
+    pub(in super::super) fn refused_offers(&mut self, held: &NavString) -> Vec<Call> {
+        let right_epoch = SOME_START + held.m() as u32 - 1;
         let [damage_31, damage_32, damage_33] =
             known::FLIPS_OF_CHECK_BITS.map(|(_, flips)| held.flipped(flips));
-        let mut calls = vec![self.offer_call(24, SOME_START, held), padded()];
+        let mut calls = vec![self.offer_call(24, right_epoch, held), padded()];
         for string in [
             damage_31,
             damage_32,
@@ -115,15 +114,15 @@ impl Input {
             held.flipped(&known::FLIPS_TAKEN_FOR_BIT_85),
             with_m(held, 0),
         ] {
-            calls.push(self.offer_call(0, SOME_START, &string));
+            calls.push(self.offer_call(0, right_epoch, &string));
         }
         let early = with_m(held, 15);
         calls.push(self.offer_call(0, 13, &early));
-        for epoch in [SOME_START - 1, SOME_START + 14] {
+        for epoch in [right_epoch - 1, right_epoch + 14] {
             calls.push(self.offer_call(0, epoch, held));
         }
         let other = with_bit_inverted(held, 40);
-        calls.push(self.offer_call(0, SOME_START, &other));
+        calls.push(self.offer_call(0, right_epoch, &other));
         calls
     }
 
