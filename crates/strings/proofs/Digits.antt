@@ -21,7 +21,7 @@ pub bit-zero : (i : ℕ) → bitOf 0 i ≡ 0
 bit-zero i = ap (λ (x : ℕ). x % 2) (zero-div (2 ^ (i - 1)))
 
 -- ---- exclusive or
-xor-digit : (x y : ℕ) → x < 2 → y < 2 → bitXor x y ≡ (x + y) % 2
+pub xor-digit : (x y : ℕ) → x < 2 → y < 2 → bitXor x y ≡ (x + y) % 2
 xor-digit zero zero h k = refl
 xor-digit zero (suc zero) h k = refl
 xor-digit zero (suc (suc y)) h k = absurd (not-suc-le-zero (le-of-suc-le-suc (le-of-suc-le-suc k)))

@@ -2,11 +2,12 @@ pub mod Below
 pub mod Digits
 pub mod WordOf
 pub mod Value
+pub mod WordBits
 pub mod Shape
 pub mod Answer
 pub mod Tests
 pub mod Sums
-pub mod Fold
+pub mod Runs
 pub mod Judge
 pub mod DamagedExactly
 pub mod SoundTests

@@ -1,9 +1,11 @@
 // The check of a string (ICD 4.7): the position rule, the sums, what they say, and the check bits.
 use crate::Verdict;
-use crate::bits::bit;
 use crate::bits::flip_bit;
+use crate::bits::word_in;
+use crate::numbers::wide;
 ghost use mathlib.Core.Path.{_≡_};
-ghost use Prim.Native.Nat.{_≤_, _<_};
+ghost use Prim.Native.Nat.{ℕ, _+_, _-_, _*_, _%_, _^_, _≤_, _<_};
+ghost use lib.Bits.{bitXor};
 ghost use lib.ListN.{length};
 ghost use Rattle.strings.specs.Number.{numberOf, paddingOf, stringBytes};
 ghost use Rattle.strings.specs.Hamming.{position, syndrome, sumAll, highest, placed, judge, ruling, encode};
@@ -28,45 +30,55 @@ struct Sums {
     c: u8,
 }
 
-// The position of a bit, by the rule that makes Table 4.13. The long runs come first: most bits are
-// in them.
-fn position_of(i: u8) -> u8
-    requires { ⌜ (1 ≤ i) × (i ≤ 85) ⌝ }
-    ensures { λ r. ⌜ r ≡ position i ⌝ }
+// A bit that is 1 turns C and each C_k whose weight its position has. C stands beside S in the sums, at
+// the weight 128: no position has it.
+fn add_bit(sums: u32, bit: u32, at: u32) -> u32
+    requires { ⌜ at < 128 ⌝ }
+    ensures { λ r. ⌜ r ≡ bitXor sums (bit % 2 * (128 + at)) ⌝ }
 {
-    if 66 <= i {
-        i - 1
-    } else if 35 <= i {
-        i - 2
-    } else if 20 <= i {
-        i - 3
-    } else if 13 <= i {
-        i - 4
-    } else if 10 <= i {
-        i - 5
-    } else if i == 9 {
-        3
-    } else if i == 8 {
-        0
-    } else {
-        1 << (i - 1)
-    }
+    sums ^ (bit % 2 * (128 + at))
 }
 
-// A set bit turns C and each C_k whose weight its position has: the sums of Table 4.13, all at once.
+// Adds a run of the position rule, bits low to top: bit i has i - less. Before it the sums are those of
+// the bits below low alone, after it those of the bits up to top.
+fn add_run(sums: u32, s: &[u8], low: u8, top: u8, less: u8) -> u32
+    requires { ⌜ length (now s) ≡ 11 ⌝ }
+    requires { ⌜ ((1 ≤ low) × (low ≤ top)) × ((top ≤ 85) × ((top < low + 32) × (less ≤ low))) ⌝ }
+    requires { ⌜ ((i : ℕ) → low ≤ i → i ≤ top → position i ≡ i - less) ⌝ }
+    requires { ⌜ sums ≡ sumAll (numberOf (now s) % 2 ^ (low - 1)) * 128 + syndrome (numberOf (now s) % 2 ^ (low - 1)) ⌝ }
+    ensures { λ r. ⌜ r ≡ sumAll (numberOf (now (s .entry)) % 2 ^ top) * 128 + syndrome (numberOf (now (s .entry)) % 2 ^ top) ⌝ }
+{
+    let mut t = sums;
+    let mut bits = word_in(s, top, low);
+    for i in wide(low)..wide(top) + 1 {
+        t = add_bit(t, bits, i - wide(less));
+        bits = bits / 2;
+    }
+    t
+}
+
+// The sums of Table 4.13 by the position rule: check bit k, 1 to 7, has 2^(k-1), bit 8 has 0, bit 9 has
+// 3, and then the five runs.
 fn add_up(s: &[u8]) -> Sums
     requires { ⌜ length (now s) ≡ 11 ⌝ }
     ensures { λ r. ⌜ (r .s ≡ syndrome (numberOf (now (s .entry)))) × (r .c ≡ sumAll (numberOf (now (s .entry)))) ⌝ }
 {
-    let mut some: u8 = 0;
-    let mut all: u8 = 0;
-    for i in 1..86 {
-        if bit(s, i) == 1 {
-            some = some ^ position_of(i);
-            all = 1 - all;
-        }
+    let low = word_in(s, 9, 1);
+    let mut t: u32 = 0;
+    for k in 1u32..8 {
+        t = add_bit(t, low >> (k - 1), 1 << (k - 1));
     }
-    Sums { s: some, c: all }
+    t = add_bit(t, low >> 7, 0);
+    t = add_bit(t, low >> 8, 3);
+    t = add_run(t, s, 10, 12, 5);
+    t = add_run(t, s, 13, 19, 4);
+    t = add_run(t, s, 20, 34, 3);
+    t = add_run(t, s, 35, 65, 2);
+    t = add_run(t, s, 66, 85, 1);
+    Sums {
+        s: (t % 128) as u8,
+        c: (t / 128) as u8,
+    }
 }
 
 // K: the highest set sum, of an S that is not 0.

@@ -9,6 +9,7 @@ mod numbers;
 pub use bits::bit;
 pub use bits::flip_bit;
 pub use bits::well_shaped;
+pub use bits::word_in;
 pub use checking::check;
 pub use hamming::Damage;
 pub use hamming::Ruling;

@@ -3,7 +3,7 @@ use layout::Form;
 use layout::Word;
 use layout::word_at;
 use records::Kind;
-use strings::wide;
+use strings::word_in;
 ghost use mathlib.Core.Path.{_≡_};
 ghost use mathlib.Core.Bool.{_&&_};
 ghost use Prim.Native.Nat.{_+_, _-_, _/_, _≤_, _<_, _^_};
@@ -15,26 +15,6 @@ ghost use Rattle.words.specs.Signed.{signedAt, codeAt};
 ghost use Rattle.layout.specs.Layout.{Placed, layout, width};
 ghost use Rattle.words.specs.Values.{carrierOf, carrierCode, valueIn, codeIn, isTime, inRange, valuesOf, firstBad};
 ghost use Rattle.words.specs.Calls.{numberIn};
-
-// The word in bits top down to low, 32 at most: what it has of its first byte, the bytes between, and
-// what it has of its last. A word of no bits has its low bit in the byte of its top bit.
-pub fn word_in(s: &[u8], top: u8, low: u8) -> u32
-    requires { ⌜ length (now s) ≡ 11 ⌝ }
-    requires { ⌜ ((1 ≤ low) × (low ≤ 85)) × ((low ≤ top + 1) × ((top ≤ 85) × ((top < low + 32) × ((85 - top) / 8 ≤ (85 - low) / 8)))) ⌝ }
-    ensures { λ r. ⌜ r ≡ wordOf (numberOf (now (s .entry))) top low ⌝ }
-{
-    let first = ((85 - top) / 8) as usize;
-    let last = ((85 - low) / 8) as usize;
-    let below = (low + 2) % 8;
-    let mut bits = wide(s[first]) % (2 << ((top + 2) % 8));
-    if first == last {
-        return bits >> below;
-    }
-    for i in first + 1..last {
-        bits = bits * 256 + wide(s[i]);
-    }
-    (bits << (8 - below)) + (wide(s[last]) >> below)
-}
 
 // The string number m.
 pub fn number_in(s: &[u8]) -> u8

@@ -1,67 +1,128 @@
--- `hamming::add_up` meets its contract: before bit i the sums are those of the bits below it. Assumes nothing.
-use mathlib.Core.Path.{_≡_, refl, sym, ap, ap₂, _∙_}
-use mathlib.Core.Logic.{⊎-elim}
-use Prim.Native.Nat.{ℕ, _-_, _≤_}
+-- `hamming::add_up` meets its contract: before check bit k the sums are those of the bits below it, and so before bits 8 and 9 and before each run.
+-- Assumes nothing.
+use mathlib.Core.Path.{_≡_, refl, sym, ap, _∙_}
+use Prim.Native.Nat.{ℕ, _+_, _-_, _/_, _%_, _^_, _≤_}
 use native.Mathlib.Omega.{arith}
 use borrow.Author.Needs.{needs}
-use lib.Bits.{bitXor}
+use lib.Dec.{lit<}
 use denote.Ref.{now}
 use Rattle.strings.specs.Number.{numberOf, bitOf}
-use Rattle.strings.proofs.Fold.{someTo, allTo, all-lt, some-set, some-clear, all-set, all-clear, some-all, all-all}
+use Rattle.strings.specs.Hamming.{position}
+use Rattle.strings.proofs.WordOf.{bit-in-word}
+use Rattle.strings.proofs.Value.{number-lt}
+use Rattle.strings.proofs.Sums.{position-lt, sumAll-lt}
+use Rattle.strings.proofs.Runs.{sumsOf, parted, added, none-yet, whole, check-at, in-run}
 use Rattle.strings.proofs.hamming.add_up.Statement.{statement}
 use Rattle.strings.proofs.hamming.add_up.Tie as tie
 
 abbrev Inv-loop : tie.InvT-loop
-Inv-loop s some₀ all₀ i₀ some all i =
-    ((1 ≤ i) × (i ≤ 86)) × ((some ≡ someTo (numberOf s) (i - 1)) × (all ≡ allTo (numberOf s) (i - 1)))
+Inv-loop s low t₀ k₀ t k = ((1 ≤ k) × (k ≤ 8)) × (t ≡ sumsOf (numberOf s % 2 ^ (k - 1)))
 
 abbrev μ-loop : tie.MeasureT-loop
-μ-loop s some₀ all₀ i₀ some all i = 86 - i
+μ-loop s low t₀ k₀ t k = 8 - k
+
+-- bits 9..1 of the string, as they are taken out
+low-bit : (l : tie.At-loop Inv-loop μ-loop) (i : ℕ) → 1 ≤ i → i ≤ 9 → l .before .word-in .result / 2 ^ (i - 1) % 2 ≡ bitOf (numberOf (now (l .before .before .before .args .s))) i
+low-bit l i from to =
+    ap (λ (x : ℕ). x / 2 ^ (i - 1) % 2) (l .before .word-in .ensures) ∙ sym (bit-in-word (numberOf (now (l .before .before .before .args .s))) i 9 1 (omega arith) from to)
+
+word-in-requires : tie.Need-word-in-requires Inv-loop μ-loop
+word-in-requires c κs = search needs
 
 loop-holds : tie.Need-loop-holds Inv-loop μ-loop
-unfolding someTo allTo
-loop-holds c = ((omega arith, omega arith), (refl, refl))
+loop-holds c = ((omega arith, omega arith), none-yet (numberOf (now (c .before .before .args .s))))
 
-bit-requires : tie.Need-bit-requires Inv-loop μ-loop
-bit-requires c κs = search needs
+sub-add-bit : tie.Need-sub-add-bit Inv-loop μ-loop
+sub-add-bit c = search needs
 
-position-of-requires : tie.Need-position-of-requires Inv-loop μ-loop
-position-of-requires c κs = search needs
+shr-add-bit : tie.Need-shr-add-bit Inv-loop μ-loop
+shr-add-bit c = search needs
 
-sub-all : tie.Need-sub-all Inv-loop μ-loop
-sub-all c =
-    let l = c .before .before .before .before in
-    omega (arith, all-lt (numberOf (now (l .before .before .args .s))) (l .loop .i - 1))
+sub-add-bit-2 : tie.Need-sub-add-bit-2 Inv-loop μ-loop
+sub-add-bit-2 c = search needs
 
-add-i : tie.Need-add-i Inv-loop μ-loop
-add-i c = omega arith
+shl-add-bit : tie.Need-shl-add-bit Inv-loop μ-loop
+shl-add-bit c = search needs
+
+add-bit-requires : tie.Need-add-bit-requires Inv-loop μ-loop
+add-bit-requires c κs =
+    let k = c .before .loop .k in
+    let l = c .before .loop .inv .0 .0 in
+    rw (check-at k l (omega arith)) (position-lt k l (omega arith))
+
+add-k : tie.Need-add-k Inv-loop μ-loop
+add-k c = search needs
 
 loop-less : tie.Need-loop-less Inv-loop μ-loop
-loop-less c = omega arith
+loop-less c = search needs
 
 loop-again : tie.Need-loop-again Inv-loop μ-loop
 loop-again c =
-    let l = c .before .before .before in
-    let n = numberOf (now (l .before .before .args .s)) in
-    let i = l .loop .i in
-    let low = l .loop .inv .0 .0 in
-    let e = l .loop .inv .1 in
-    let b = c .before .bit .ensures in (
+    let l = c .before .before in
+    let n = numberOf (now (l .before .before .before .args .s)) in
+    let k = l .loop .k in
+    let from = l .loop .inv .0 .0 in
+    let next : k ≡ k + 1 - 1 = omega arith in (
       (omega arith, omega arith),
-      ⊎-elim
-          (λ w. let h = sym b ∙ w .0 .taken in
-          (w .2 ∙ ap₂ bitXor (e .0) (w .1 .ensures) ∙ some-set n i low h, w .3 ∙ ap (λ (x : ℕ). 1 - x) (e .1) ∙ all-set n i low h))
-          (λ w. let h : bitOf n i ≡ 1 → ⊥ = (λ q. w .0 .left (b ∙ q)) in
-          (w .1 ∙ e .0 ∙ some-clear n i low h, w .2 ∙ e .1 ∙ all-clear n i low h))
-          (c .if1 .came),
+      c .add-bit .ensures ∙ added n k from (omega arith) (l .loop .inv .1) (low-bit l k from (omega arith)) (check-at k from (omega arith))
+          ∙ ap (λ (i : ℕ). sumsOf (n % 2 ^ i)) next,
     )
 
+add-bit-requires-2 : tie.Need-add-bit-requires-2 Inv-loop μ-loop
+add-bit-requires-2 c κs = search needs
+
+add-bit-requires-3 : tie.Need-add-bit-requires-3 Inv-loop μ-loop
+add-bit-requires-3 c κs = search needs
+
+-- past the loop the check bits are added, and then bits 8 and 9
+sums-to-9 : (c : tie.After-add-bit3 Inv-loop μ-loop) → c .add-bit3 .result ≡ sumsOf (numberOf (now (c .before .before .before .before .before .before .args .s)) % 2 ^ 9)
+unfolding position
+sums-to-9 c =
+    let l = c .before .before .before in
+    let n = numberOf (now (l .before .before .before .args .s)) in
+    let q : l .loop .k - 1 ≡ 7 = omega arith in
+    let seven : l .loop .t ≡ sumsOf (n % 2 ^ 7) = l .loop .inv .1 ∙ ap (λ (i : ℕ). sumsOf (n % 2 ^ i)) q in
+    let eight = c .before .add-bit2 .ensures ∙ added n 8 (lit< tt) (lit< tt) seven (low-bit l 8 (lit< tt) (lit< tt)) refl in
+    c .add-bit3 .ensures ∙ added n 9 (lit< tt) (lit< tt) eight (low-bit l 9 (lit< tt) (lit< tt)) refl
+
+add-run-requires : tie.Need-add-run-requires Inv-loop μ-loop
+unfolding position
+add-run-requires c κs = (search needs, (search needs, (in-run _ _ _ tt tt tt, sums-to-9 c)))
+
+add-run-requires-2 : tie.Need-add-run-requires-2 Inv-loop μ-loop
+unfolding position
+add-run-requires-2 c κs = (search needs, (search needs, (in-run _ _ _ tt tt tt, c .add-run .ensures)))
+
+add-run-requires-3 : tie.Need-add-run-requires-3 Inv-loop μ-loop
+unfolding position
+add-run-requires-3 c κs = (search needs, (search needs, (in-run _ _ _ tt tt tt, c .add-run2 .ensures)))
+
+add-run-requires-4 : tie.Need-add-run-requires-4 Inv-loop μ-loop
+unfolding position
+add-run-requires-4 c κs = (search needs, (search needs, (in-run _ _ _ tt tt tt, c .add-run3 .ensures)))
+
+add-run-requires-5 : tie.Need-add-run-requires-5 Inv-loop μ-loop
+unfolding position
+add-run-requires-5 c κs = (search needs, (search needs, (in-run _ _ _ tt tt tt, c .add-run4 .ensures)))
+
+cast-t11 : tie.Need-cast-t11 Inv-loop μ-loop
+cast-t11 c = search needs
+
+-- and past the runs all of them
+abbrev N : tie.After-add-run5 Inv-loop μ-loop → ℕ
+N c = numberOf (now (c .before .before .before .before .before .before .before .before .before .before .before .args .s))
+
+all-added : (c : tie.After-add-run5 Inv-loop μ-loop) → c .add-run5 .result ≡ sumsOf (N c)
+all-added c =
+    let known = c .before .before .before .before .before .before .before .before .before .before in
+    let s = now (known .before .args .s) in
+    c .add-run5 .ensures ∙ whole (numberOf s) (number-lt s (λ k. known .shared-slice-known .given k .fits) (known .before .pre))
+
+cast-t13 : tie.Need-cast-t13 Inv-loop μ-loop
+cast-t13 c = record { fits = omega (arith, ap (λ (t : ℕ). t / 128) (all-added c), parted (N c) .1, sumAll-lt (N c)) }
+
 returns : tie.Need-returns Inv-loop μ-loop
-returns c =
-    let l = c .before in
-    let n = numberOf (now (l .before .before .args .s)) in
-    let q : l .loop .i - 1 ≡ 85 = omega arith in
-    (l .loop .inv .1 .0 ∙ ap (someTo n) q ∙ some-all n, l .loop .inv .1 .1 ∙ ap (allTo n) q ∙ all-all n)
+returns c = (ap (λ (t : ℕ). t % 128) (all-added c) ∙ parted (N c) .0, ap (λ (t : ℕ). t / 128) (all-added c) ∙ parted (N c) .1)
 
 pub add-up-spec : {M : Type 1} → statement M
 add-up-spec =
@@ -69,11 +130,23 @@ add-up-spec =
     (tie.spec
     Inv-loop
     μ-loop
+    word-in-requires
     loop-holds
-    bit-requires
-    position-of-requires
-    sub-all
-    add-i
+    sub-add-bit
+    shr-add-bit
+    sub-add-bit-2
+    shl-add-bit
+    add-bit-requires
+    add-k
     loop-less
     loop-again
+    add-bit-requires-2
+    add-bit-requires-3
+    add-run-requires
+    add-run-requires-2
+    add-run-requires-3
+    add-run-requires-4
+    add-run-requires-5
+    cast-t11
+    cast-t13
     returns)
