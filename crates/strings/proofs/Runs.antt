@@ -96,6 +96,14 @@ pub check-at : (k : ℕ) → 1 ≤ k → k ≤ 7 → 1 * 2 ^ (k - 1) % 2 ^ 32 �
 unfolding position
 check-at k l u = shl-exact {a = 1} 1 (k - 1) 32 (lit< tt) (omega arith) ∙ one-mul (2 ^ (k - 1)) ∙ rw (le-leb k 7 u)
 
+pub position-8 : 0 ≡ position 8
+unfolding position
+position-8 = refl
+
+pub position-9 : 3 ≡ position 9
+unfolding position
+position-9 = refl
+
 -- a run, bits low to high: d less than the bit number
 abbrev runTest : ℕ → ℕ → ℕ → ℕ → Bool
 runTest low high d j = not (leb low (suc j) && leb (suc j) high) || eqb (position (suc j)) (suc j - d)

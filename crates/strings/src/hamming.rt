@@ -2,7 +2,6 @@
 use crate::Verdict;
 use crate::bits::flip_bit;
 use crate::bits::word_in;
-use crate::numbers::wide;
 ghost use mathlib.Core.Path.{_≡_};
 ghost use Prim.Native.Nat.{ℕ, _+_, _-_, _*_, _%_, _^_, _≤_, _<_};
 ghost use lib.Bits.{bitXor};
@@ -50,8 +49,8 @@ fn add_run(sums: u32, s: &[u8], low: u8, top: u8, less: u8) -> u32
 {
     let mut t = sums;
     let mut bits = word_in(s, top, low);
-    for i in wide(low)..wide(top) + 1 {
-        t = add_bit(t, bits, i - wide(less));
+    for i in low as u32..top as u32 + 1 {
+        t = add_bit(t, bits, i - less as u32);
         bits = bits / 2;
     }
     t

@@ -22,30 +22,17 @@ abbrev μ-loop : tie.MeasureT-loop
 word-in-requires : tie.Need-word-in-requires Inv-loop μ-loop
 word-in-requires c κs = search needs
 
-wide-requires : tie.Need-wide-requires Inv-loop μ-loop
-wide-requires c κs = search needs
-
-wide-requires-2 : tie.Need-wide-requires-2 Inv-loop μ-loop
-wide-requires-2 c κs = search needs
-
 add-i-end : tie.Need-add-i-end Inv-loop μ-loop
 add-i-end c = search needs
 
 loop-holds : tie.Need-loop-holds Inv-loop μ-loop
 loop-holds c =
-    let st = c .before .before .before .before in
+    let st = c .before .before in
     let a = st .args in
-    let n = numberOf (a .s .now) in
-    let w = wordOf n (a .top) (a .low) in
-    let e : a .low ≡ c .before .wide .result = sym (c .before .wide .ensures .0) in
-    let z : 0 ≡ c .before .wide .result - a .low = omega arith in
-    let whole : w ≡ w / 2 ^ 0 = omega arith in (
-      (omega arith, omega arith),
-      (st .pre .1 .1 .1 ∙ ap (λ (i : ℕ). sumsOf (n % 2 ^ (i - 1))) e, c .before .before .word-in .ensures ∙ whole ∙ ap (λ (k : ℕ). w / 2 ^ k) z),
-    )
-
-wide-requires-3 : tie.Need-wide-requires-3 Inv-loop μ-loop
-wide-requires-3 c κs = search needs
+    let w = wordOf (numberOf (a .s .now)) (a .top) (a .low) in
+    let z : 0 ≡ a .low - a .low = omega arith in
+    let whole : w ≡ w / 2 ^ 0 = omega arith in
+    ((omega arith, omega arith), (st .pre .1 .1 .1, c .word-in .ensures ∙ whole ∙ ap (λ (k : ℕ). w / 2 ^ k) z))
 
 sub-add-bit : tie.Need-sub-add-bit Inv-loop μ-loop
 sub-add-bit c = search needs
@@ -61,8 +48,8 @@ loop-less c = search needs
 
 loop-again : tie.Need-loop-again Inv-loop μ-loop
 loop-again c =
-    let l = c .before .before .before .loop in
-    let st = c .before .before .before .before .before .before .before .before in
+    let l = c .before .before .loop in
+    let st = c .before .before .before .before .before in
     let a = st .args in
     let n = numberOf (a .s .now) in
     let w = wordOf n (a .top) (a .low) in
@@ -72,7 +59,7 @@ loop-again c =
     let next : i ≡ i + 1 - 1 = omega arith in
     let past : i - a .low + 1 ≡ i + 1 - a .low = omega arith in
     let bit : l .bits % 2 ≡ bitOf n i = ap (λ (x : ℕ). x % 2) (l .inv .1 .1) ∙ sym (bit-in-word n i (a .top) (a .low) (st .pre .1 .0 .0 .0) from to) in
-    let at : i - c .before .wide3 .result ≡ position i = ap (λ (x : ℕ). i - x) (c .before .wide3 .ensures .0) ∙ sym (st .pre .1 .1 .0 i from to) in (
+    let at : i - a .less ≡ position i = sym (st .pre .1 .1 .0 i from to) in (
       (omega arith, omega arith),
       (
         c .add-bit .ensures ∙ added n i (omega arith) (omega arith) (l .inv .1 .0) bit at ∙ ap (λ (k : ℕ). sumsOf (n % 2 ^ k)) next,
@@ -83,7 +70,7 @@ loop-again c =
 returns : tie.Need-returns Inv-loop μ-loop
 returns c =
     let l = c .before .loop in
-    let a = c .before .before .before .before .before .before .args in
+    let a = c .before .before .before .before .args in
     let end : l .i - 1 ≡ a .top = omega arith in
     l .inv .1 .0 ∙ ap (λ (k : ℕ). sumsOf (numberOf (a .s .now) % 2 ^ k)) end
 
@@ -94,11 +81,8 @@ add-run-spec =
     Inv-loop
     μ-loop
     word-in-requires
-    wide-requires
-    wide-requires-2
     add-i-end
     loop-holds
-    wide-requires-3
     sub-add-bit
     add-bit-requires
     add-i

@@ -1,9 +1,10 @@
 -- `hamming::add_up` meets its contract: before check bit k the sums are those of the bits below it, and so before bits 8 and 9 and before each run.
 -- Assumes nothing.
-use mathlib.Core.Path.{_≡_, refl, sym, ap, _∙_}
-use Prim.Native.Nat.{ℕ, _+_, _-_, _/_, _%_, _^_, _≤_}
+use mathlib.Core.Path.{_≡_, sym, ap, _∙_}
+use Prim.Native.Nat.{ℕ, _+_, _-_, _*_, _/_, _%_, _^_, _≤_}
 use native.Mathlib.Omega.{arith}
 use borrow.Author.Needs.{needs}
+use lib.Bits.{bitXor}
 use lib.Dec.{lit<}
 use denote.Ref.{now}
 use Rattle.strings.specs.Number.{numberOf, bitOf}
@@ -11,7 +12,7 @@ use Rattle.strings.specs.Hamming.{position}
 use Rattle.strings.proofs.WordOf.{bit-in-word}
 use Rattle.strings.proofs.Value.{number-lt}
 use Rattle.strings.proofs.Sums.{position-lt, sumAll-lt}
-use Rattle.strings.proofs.Runs.{sumsOf, parted, added, none-yet, whole, check-at, in-run}
+use Rattle.strings.proofs.Runs.{sumsOf, parted, added, none-yet, whole, check-at, position-8, position-9, in-run}
 use Rattle.strings.proofs.hamming.add_up.Statement.{statement}
 use Rattle.strings.proofs.hamming.add_up.Tie as tie
 
@@ -76,34 +77,51 @@ add-bit-requires-3 c κs = search needs
 
 -- past the loop the check bits are added, and then bits 8 and 9
 sums-to-9 : (c : tie.After-add-bit3 Inv-loop μ-loop) → c .add-bit3 .result ≡ sumsOf (numberOf (now (c .before .before .before .before .before .before .args .s)) % 2 ^ 9)
-unfolding position
 sums-to-9 c =
     let l = c .before .before .before in
     let n = numberOf (now (l .before .before .before .args .s)) in
     let q : l .loop .k - 1 ≡ 7 = omega arith in
+    let w = l .before .word-in .result in
     let seven : l .loop .t ≡ sumsOf (n % 2 ^ 7) = l .loop .inv .1 ∙ ap (λ (i : ℕ). sumsOf (n % 2 ^ i)) q in
-    let eight = c .before .add-bit2 .ensures ∙ added n 8 (lit< tt) (lit< tt) seven (low-bit l 8 (lit< tt) (lit< tt)) refl in
-    c .add-bit3 .ensures ∙ added n 9 (lit< tt) (lit< tt) eight (low-bit l 9 (lit< tt) (lit< tt)) refl
+    let bit-8 : c .before .add-bit2 .result ≡ bitXor (l .loop .t) (w / 2 ^ 7 % 2 * (128 + 0)) = c .before .add-bit2 .ensures in
+    let eight = bit-8 ∙ added n 8 (lit< tt) (lit< tt) seven (low-bit l 8 (lit< tt) (lit< tt)) position-8 in
+    let bit-9 : c .add-bit3 .result ≡ bitXor (c .before .add-bit2 .result) (w / 2 ^ 8 % 2 * (128 + 3)) = c .add-bit3 .ensures in
+    bit-9 ∙ added n 9 (lit< tt) (lit< tt) eight (low-bit l 9 (lit< tt) (lit< tt)) position-9
 
 add-run-requires : tie.Need-add-run-requires Inv-loop μ-loop
 unfolding position
-add-run-requires c κs = (search needs, (search needs, (in-run _ _ _ tt tt tt, sums-to-9 c)))
+add-run-requires c κs = (
+  c .before .before .before .before .before .before .pre,
+  (((lit< tt, lit< tt), (lit< tt, (lit< tt, lit< tt))), (in-run _ _ _ tt tt tt, sums-to-9 c)),
+)
 
 add-run-requires-2 : tie.Need-add-run-requires-2 Inv-loop μ-loop
 unfolding position
-add-run-requires-2 c κs = (search needs, (search needs, (in-run _ _ _ tt tt tt, c .add-run .ensures)))
+add-run-requires-2 c κs = (
+  c .before .before .before .before .before .before .before .pre,
+  (((lit< tt, lit< tt), (lit< tt, (lit< tt, lit< tt))), (in-run _ _ _ tt tt tt, c .add-run .ensures)),
+)
 
 add-run-requires-3 : tie.Need-add-run-requires-3 Inv-loop μ-loop
 unfolding position
-add-run-requires-3 c κs = (search needs, (search needs, (in-run _ _ _ tt tt tt, c .add-run2 .ensures)))
+add-run-requires-3 c κs = (
+  c .before .before .before .before .before .before .before .before .pre,
+  (((lit< tt, lit< tt), (lit< tt, (lit< tt, lit< tt))), (in-run _ _ _ tt tt tt, c .add-run2 .ensures)),
+)
 
 add-run-requires-4 : tie.Need-add-run-requires-4 Inv-loop μ-loop
 unfolding position
-add-run-requires-4 c κs = (search needs, (search needs, (in-run _ _ _ tt tt tt, c .add-run3 .ensures)))
+add-run-requires-4 c κs = (
+  c .before .before .before .before .before .before .before .before .before .pre,
+  (((lit< tt, lit< tt), (lit< tt, (lit< tt, lit< tt))), (in-run _ _ _ tt tt tt, c .add-run3 .ensures)),
+)
 
 add-run-requires-5 : tie.Need-add-run-requires-5 Inv-loop μ-loop
 unfolding position
-add-run-requires-5 c κs = (search needs, (search needs, (in-run _ _ _ tt tt tt, c .add-run4 .ensures)))
+add-run-requires-5 c κs = (
+  c .before .before .before .before .before .before .before .before .before .before .pre,
+  (((lit< tt, lit< tt), (lit< tt, (lit< tt, lit< tt))), (in-run _ _ _ tt tt tt, c .add-run4 .ensures)),
+)
 
 cast-t11 : tie.Need-cast-t11 Inv-loop μ-loop
 cast-t11 c = search needs
@@ -116,7 +134,7 @@ all-added : (c : tie.After-add-run5 Inv-loop μ-loop) → c .add-run5 .result �
 all-added c =
     let known = c .before .before .before .before .before .before .before .before .before .before in
     let s = now (known .before .args .s) in
-    c .add-run5 .ensures ∙ whole (numberOf s) (number-lt s (λ k. known .shared-slice-known .given k .fits) (known .before .pre))
+    _∙_ {b = sumsOf (numberOf s % 2 ^ 85)} (c .add-run5 .ensures) (whole (numberOf s) (number-lt s (λ k. known .shared-slice-known .given k .fits) (known .before .pre)))
 
 cast-t13 : tie.Need-cast-t13 Inv-loop μ-loop
 cast-t13 c = record { fits = omega (arith, ap (λ (t : ℕ). t / 128) (all-added c), parted (N c) .1, sumAll-lt (N c)) }
