@@ -8,11 +8,13 @@ typedef unsigned char u8;
 typedef unsigned long long usize; /* a slice is a pointer and a length of 64 bits, on the Cortex-M0 too */
 typedef unsigned long long told; /* the numbers of an answer, the first in the lowest byte */
 extern told measured_relative(const u8 *s, usize n, u8 *out, usize room);
-extern told measured_check(const u8 *s, usize n, u8 *out, usize room);
 extern told measured_read(const u8 *s, usize n, u8 kind, int *words);
 extern told measured_write(u8 m, u8 kind, const int *words, u8 *out, usize room);
 extern u8 measured_offers(const u8 *records, usize n);
 extern u8 measured_block(const u8 *block, usize n);
+extern unsigned spineyarrow_check(const u8 *s, usize n, u8 *out, usize room);
+extern unsigned spineyarrow_word(const u8 *s, usize n, u8 word, double *value);
+extern unsigned spineyarrow_immediate(const u8 *one, usize n1, const u8 *two, usize n2, const u8 *three, usize n3, const u8 *four, usize n4, int *words, double *numbers);
 extern told spineyarrow_offer(void *station, u8 channel, unsigned epoch, const u8 *s, usize n);
 extern told spineyarrow_field(void *station, const u8 *block, usize n, usize at);
 extern usize spineyarrow_next(const u8 *block, usize n, usize at);
@@ -20,7 +22,8 @@ extern usize spineyarrow_next(const u8 *block, usize n, usize at);
 enum { STRINGS = 75, CHANNELS = 4, RECORD = 16, FIELD = 3 + RECORD, KINDS = 8 };
 static u8 sent[STRINGS][11], plain[STRINGS][11], wrong1[STRINGS][11], wrong2[STRINGS][11], out[11];
 static u8 number[STRINGS], kind[STRINGS], records[STRINGS * CHANNELS * RECORD], block[STRINGS * CHANNELS * FIELD];
-static int words[STRINGS][8], read[8], of_kind[KINDS + 1][STRINGS], many[KINDS + 1], now;
+static double value, numbers[12];
+static int words[STRINGS][8], read[26], of_kind[KINDS + 1][STRINGS], many[KINDS + 1], now;
 /* a station lent to the library: 24 rows of 228 bytes, 24 entries of 24, and their summary; all zero is fresh */
 #ifndef ROW
 #define ROW 228
@@ -29,11 +32,20 @@ static struct { u8 rows[24][ROW], book[24][24], summary[16]; } __attribute__((al
 
 static void turn(u8 *s, int bit) { s[(85 - bit) / 8] ^= 1 << ((bit + 2) % 8); }
 static void relative(int i) { rig_sink = measured_relative(sent[i], 11, out, 11); }
-static void clean(int i) { rig_sink = measured_check(plain[i], 11, out, 11); }
-static void repaired(int i) { rig_sink = measured_check(wrong1[i], 11, out, 11); }
-static void damaged(int i) { rig_sink = measured_check(wrong2[i], 11, out, 11); }
+static void clean(int i) { rig_sink = spineyarrow_check(plain[i], 11, out, 11); }
+static void repaired(int i) { rig_sink = spineyarrow_check(wrong1[i], 11, out, 11); }
+static void damaged(int i) { rig_sink = spineyarrow_check(wrong2[i], 11, out, 11); }
 static void reads(int i) { int j = of_kind[now][i]; rig_sink = measured_read(plain[j], 11, kind[j], read); }
 static void writes(int i) { int j = of_kind[now][i]; rig_sink = measured_write(number[j], kind[j], words[j], out, 11); }
+/* the first signed word of each string; the immediate record of each frame */
+static void word(int i) {
+    static const u8 first[] = { 0, 1, 4, 7, 11, 13, 15, 18, 21 };
+    rig_sink = spineyarrow_word(plain[i], 11, first[kind[i]], &value);
+}
+static void immediate(int i) {
+    const u8 (*s)[11] = (const u8 (*)[11])plain + i * 15;
+    rig_sink = spineyarrow_immediate(s[0], 11, s[1], 11, s[2], 11, s[3], 11, read, numbers);
+}
 static void fresh(int i) { rig_sink = measured_offers(records, 0); }
 static void by_value(int i) { rig_sink = measured_offers(records, sizeof records); }
 static void by_value_block(int i) { rig_sink = measured_block(block, sizeof block); }
@@ -95,6 +107,8 @@ int main(void) {
     rig_run("check,-damaged", damaged, STRINGS);
     for (now = 1; now <= KINDS; now++) sprintf(label, "read,-%d", now), rig_run(label, reads, many[now]);
     for (now = 1; now <= KINDS; now++) sprintf(label, "encode,-%d", now), rig_run(label, writes, many[now]);
+    rig_run("a-word-as-a-float", word, STRINGS);
+    rig_run("the-record-of-four-strings", immediate, STRINGS / 15);
     rig_run("fresh", fresh, 1);
     rig_run("by-value", by_value, 1);
     i = rig_sink;

@@ -35,6 +35,13 @@ pub fn codes_out_of_range(word: &Word) -> Vec<u128> {
     (0..1 << word.width()).filter(is_refused).collect()
 }
 
+/// The ends of the whole and of each half, with their neighbours: of a signed word 0, 1, its
+/// greatest values, minus zero, -1 and its least values.
+pub fn codes_at_ends(word: &Word) -> [u128; 8] {
+    let (half, end) = (minus_zero(word), 1 << word.width());
+    [0, 1, half - 2, half - 1, half, half + 1, end - 2, end - 1]
+}
+
 /// The sign bit alone.
 pub fn minus_zero(word: &Word) -> u128 {
     1 << (word.width() - 1)

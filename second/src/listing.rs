@@ -6,6 +6,7 @@ use crate::refusal::Refusal;
 use crate::station::reception::receive;
 use crate::station::row::Taken;
 use crate::station::Station;
+use crate::stream::answer_each;
 use crate::string::BYTES;
 
 /// "Channel, epoch big-endian in four bytes, relative string."
@@ -34,27 +35,12 @@ impl Record {
     }
 }
 
-/// Offers each record to a fresh station and prints its line. Only one record is
-/// held at a time.
-pub fn answer_stream(mut input: impl Read, mut output: impl Write) -> io::Result<()> {
+/// Offers each record to a fresh station and prints its line.
+pub fn answer_stream(input: impl Read, output: impl Write) -> io::Result<()> {
     let mut station = Station::default();
-    let mut bytes = Vec::with_capacity(RECORD_BYTES);
-    loop {
-        bytes.clear();
-        let one_record = RECORD_BYTES as u64;
-        match input.by_ref().take(one_record).read_to_end(&mut bytes)? {
-            0 => return output.flush(),
-            _ => writeln!(output, "{}", line(&mut station, &bytes))?,
-        }
-    }
-}
-
-/// "Bytes left over print `short` and their count."
-fn line(station: &mut Station, bytes: &[u8]) -> String {
-    match bytes.try_into() {
-        Ok(record) => line_of_record(station, Record::from_bytes(record)),
-        Err(_) => format!("short {}", bytes.len()),
-    }
+    answer_each(input, output, |record| {
+        line_of_record(&mut station, Record::from_bytes(record))
+    })
 }
 
 /// "Channel, epoch, number (0 if taken), repaired bit (0 if none or number 1..4),

@@ -4,7 +4,7 @@ use std::ffi::OsString;
 use std::io::{self, BufReader, BufWriter, Read, Write};
 use std::process::ExitCode;
 
-use second::{listing, make, trial};
+use second::{listing, logger, make, trial};
 
 const USAGE: &str = "usage:
   second make trial SEED           write an input for trial
@@ -12,11 +12,13 @@ const USAGE: &str = "usage:
   second make tallies              write an input for trial: tallies past 65,535
   second make listing SEED COUNT   write COUNT records for the listing
   second make block SEED COUNT     write a block of COUNT fields and one that is refused
+  second make logger SEED          write 2,000 plain strings for the logger
   second make sample               write a few records for the listing
   second make sample trial         write the same records as an input for trial
   second answer trial              read an input for trial, write the expected output
   second answer listing            read records, write the expected lines
   second answer block              read one block, write the expected lines
+  second answer logger             read plain strings, write the expected lines
 SEED and COUNT are decimal numbers from 0 to 18446744073709551615.";
 
 const WRONG_ARGUMENTS: u8 = 2;
@@ -28,10 +30,12 @@ enum Command {
     MakeSampleTrial,
     MakeListing { seed: u64, count: u64 },
     MakeBlock { seed: u64, count: u64 },
+    MakeLogger { seed: u64 },
     MakeSampleListing,
     AnswerTrial,
     AnswerListing,
     AnswerBlock,
+    AnswerLogger,
 }
 
 fn main() -> ExitCode {
@@ -68,10 +72,14 @@ fn parse(arguments: &[OsString]) -> Option<Command> {
             seed: seed.parse().ok()?,
             count: count.parse().ok()?,
         },
+        ["make", "logger", seed] => Command::MakeLogger {
+            seed: seed.parse().ok()?,
+        },
         ["make", "sample"] => Command::MakeSampleListing,
         ["answer", "trial"] => Command::AnswerTrial,
         ["answer", "listing"] => Command::AnswerListing,
         ["answer", "block"] => Command::AnswerBlock,
+        ["answer", "logger"] => Command::AnswerLogger,
         _ => return None,
     };
     Some(command)
@@ -86,6 +94,7 @@ fn run(command: Command) -> io::Result<()> {
         Command::MakeSampleTrial => output.write_all(&make::sample_for_trial())?,
         Command::MakeListing { seed, count } => make::write_listing(seed, count, &mut output)?,
         Command::MakeBlock { seed, count } => output.write_all(&make::block(seed, count))?,
+        Command::MakeLogger { seed } => output.write_all(&make::logger_input(seed))?,
         Command::MakeSampleListing => output.write_all(&make::sample_for_listing())?,
         Command::AnswerTrial => {
             output.write_all(trial::answer_input(&whole_input()?).as_bytes())?
@@ -95,6 +104,9 @@ fn run(command: Command) -> io::Result<()> {
         }
         Command::AnswerBlock => {
             output.write_all(trial::answer_block(&whole_input()?).as_bytes())?
+        }
+        Command::AnswerLogger => {
+            logger::answer_stream(BufReader::new(io::stdin().lock()), &mut output)?
         }
     }
     output.flush()

@@ -1,10 +1,13 @@
-//! Makes inputs: requests for `trial`, records for the listing and a long block, from a
-//! seed.
+//! Makes inputs: requests for `trial`, records for the listing, a long block and strings for
+//! the logger, from a seed.
 
 mod damage;
+mod faults;
 mod feed;
 mod field_feed;
 mod hearing;
+mod logger;
+mod numbers;
 mod sample;
 mod satellite;
 mod station;
@@ -40,6 +43,7 @@ pub fn trial_input(seed: u64) -> Vec<u8> {
             station::health_flags::add_all,
             station::blocks::add_all,
             station::summary::add_all,
+            numbers::add_all,
         ],
     )
 }
@@ -74,6 +78,11 @@ pub fn write_listing(seed: u64, count: u64, output: &mut impl Write) -> io::Resu
 /// So many fields, and one that is refused.
 pub fn block(seed: u64, count: u64) -> Vec<u8> {
     field_feed::long_block(seed, count)
+}
+
+/// Plain strings for the logger.
+pub fn logger_input(seed: u64) -> Vec<u8> {
+    logger::strings(seed)
 }
 
 /// Tallies past their limit: some 260,000 offers, without a seed.

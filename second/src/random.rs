@@ -1,6 +1,7 @@
 //! Numbers that look random but follow from a seed alone: splitmix64.
 
 use crate::hamming;
+use crate::station::record::KINDS_OF_A_RECORD;
 use crate::string::{NavString, BITS, IDLE_BIT};
 use crate::words::{self, kinds::Kind, word::Word};
 
@@ -84,5 +85,10 @@ impl SplitMix64 {
         let m = self.one_of(kind.strings);
         let values = self.legal_values(kind);
         words::write(kind, m, &values).expect("legal words")
+    }
+
+    /// Strings 1 to 4, each as before.
+    pub fn strings_of_a_record(&mut self) -> [NavString; 4] {
+        KINDS_OF_A_RECORD.map(|kind| self.string_of(kind))
     }
 }

@@ -20,6 +20,8 @@ pub const HEALTH: u8 = 11;
 pub const FRESH: u8 = 12;
 pub const BLOCK: u8 = 13;
 pub const SUMMARY: u8 = 14;
+pub const WORD_AS_FLOAT: u8 = 15;
+pub const FOUR_STRINGS: u8 = 16;
 pub const ENTRY_WORDS: u8 = 23;
 
 #[derive(Clone, Copy, Debug, PartialEq, Eq)]
@@ -98,4 +100,23 @@ pub fn values_to_bytes(values: &[i64]) -> Vec<u8> {
         .iter()
         .flat_map(|value| fits(value).to_be_bytes())
         .collect()
+}
+
+/// Four strings, each after its length in one byte, and nothing behind them.
+pub fn split_strings(mut payload: &[u8]) -> Option<[&[u8]; 4]> {
+    let mut strings = [&[][..]; 4];
+    for string in &mut strings {
+        let (&length, rest) = payload.split_first()?;
+        (*string, payload) = rest.split_at_checked(usize::from(length))?;
+    }
+    payload.is_empty().then_some(strings)
+}
+
+pub fn join_strings(strings: &[Vec<u8>]) -> Vec<u8> {
+    let mut payload = Vec::new();
+    for string in strings {
+        payload.push(u8::try_from(string.len()).expect("one byte of length: at most 255"));
+        payload.extend(string);
+    }
+    payload
 }

@@ -2,6 +2,7 @@
 //! station.
 
 mod block;
+mod host;
 mod station;
 mod strings;
 mod words;
@@ -66,6 +67,8 @@ fn call(station: &mut Station, request: Request) -> Option<Answer> {
         request::FRESH => station::fresh(station, payload),
         request::BLOCK => Some(Ok(block::block(station, payload))),
         request::SUMMARY => station::summary(station, payload),
+        request::WORD_AS_FLOAT => host::word(payload),
+        request::FOUR_STRINGS => host::record(payload),
         request::ENTRY_WORDS => station::entry_words(station, payload),
         _ => None,
     }

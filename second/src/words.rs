@@ -1,9 +1,10 @@
 //! The reader and the encoder: the words of a string, and a string of words.
 
 pub mod kinds;
+pub mod signed;
 pub mod word;
 
-use crate::hamming;
+use crate::hamming::{self, Verdict};
 use crate::refusal::Refusal;
 use crate::string::{NavString, STRING_NUMBER};
 use kinds::Kind;
@@ -11,12 +12,20 @@ use kinds::Kind;
 /// Reads a plain string. Order of refusals: 2, 31 to 33, 4, 5, 11, 10. The string is
 /// read with its repair made, m included.
 pub fn read(kind: &Kind, bytes: &[u8]) -> Result<(usize, Vec<i64>), Refusal> {
-    let string = NavString::from_bytes(bytes)?;
-    let (_, string) = hamming::check(&string)?;
-    let m = string.require_m()?;
+    let (_, string) = checked(bytes)?;
+    let m = string.m();
     require_place(kind, m)?;
     let values = read_words(kind, &string)?;
     Ok((m, values))
+}
+
+/// What the reader does of any kind: the verdict, and the plain string with its repair made.
+/// Order of refusals: 2, 31 to 33, 4, 5.
+pub fn checked(bytes: &[u8]) -> Result<(Verdict, NavString), Refusal> {
+    let string = NavString::from_bytes(bytes)?;
+    let (verdict, string) = hamming::check(&string)?;
+    string.require_m()?;
+    Ok((verdict, string))
 }
 
 /// The values of a kind's words, whatever the string's m and check bits.

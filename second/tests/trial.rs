@@ -1,10 +1,12 @@
 //! `trial`'s lines: framing, payloads, the order of refusals, the made input.
 
+use second::alter::with_number;
 use second::known::{a, received_frame, A, B, B_DAMAGED, B_INVERTED, FLIPS_THAT_DAMAGE};
 use second::relative::to_relative;
 use second::request::{
-    append, values_to_bytes, whole_requests, Piece, BLOCK, CHECK, ENTRY, ENTRY_WORDS, FRESH,
-    FROM_RELATIVE, HEALTH, IMMEDIATE, OFFER, READ, RESET, SUMMARY, TALLIES, TO_RELATIVE, WRITE,
+    append, join_strings, values_to_bytes, whole_requests, Piece, BLOCK, CHECK, ENTRY, ENTRY_WORDS,
+    FOUR_STRINGS, FRESH, FROM_RELATIVE, HEALTH, IMMEDIATE, OFFER, READ, RESET, SUMMARY, TALLIES,
+    TO_RELATIVE, WORD_AS_FLOAT, WRITE,
 };
 use second::string::NavString;
 use second::{make, trial};
@@ -18,7 +20,7 @@ fn answer_payload(op: u8, payload: &[u8]) -> String {
     trial::answer_input(&input)
 }
 
-/// The first byte is the room, or the reader's kind.
+/// The first byte is the room, the reader's kind, or the word that is asked for.
 fn answer(op: u8, first: u8, string: &[u8]) -> String {
     answer_payload(op, &[&[first], string].concat())
 }
@@ -265,6 +267,79 @@ fn a_summary_prints_count_oldest_and_newest_day() {
     assert_eq!(lines[16..], ["ok 5 7409 7409", "ok", "ok 0 0 0"]);
 }
 
+#[test]
+fn a_word_prints_the_bits_of_its_float() {
+    assert_eq!(answer(WORD_AS_FLOAT, 1, &A), "ok 0000000000000000\n");
+    let greatest = with_number(&a(), (35, 9), 67_108_863).to_bytes();
+    assert_eq!(answer(WORD_AS_FLOAT, 3, &greatest), "ok 40dffffff8000000\n");
+    let least = with_number(&a(), (35, 9), 0x7FF_FFFF).to_bytes();
+    assert_eq!(answer(WORD_AS_FLOAT, 3, &least), "ok c0dffffff8000000\n");
+    let minus_zero = with_number(&a(), (35, 9), 1 << 26).to_bytes();
+    assert_eq!(
+        answer(WORD_AS_FLOAT, 3, &minus_zero),
+        "ok 0000000000000000\n"
+    );
+}
+
+#[test]
+fn a_word_is_refused_by_the_readers_numbers() {
+    assert_eq!(answer(WORD_AS_FLOAT, 4, &A), "no 11\n");
+    for number in [0, 23, 255] {
+        assert_eq!(answer(WORD_AS_FLOAT, number, &A), "no 11\n");
+        assert_eq!(answer(WORD_AS_FLOAT, number, &[0; 11]), "no 5\n");
+        assert_eq!(answer(WORD_AS_FLOAT, number, &[]), "no 2\n");
+    }
+    let hour_24 = with_number(&a(), (76, 65), 24 * 128).to_bytes();
+    assert_eq!(answer(WORD_AS_FLOAT, 1, &hour_24), "no 10 76\n");
+    assert_eq!(answer_payload(WORD_AS_FLOAT, &[]), "bad 15\n");
+}
+
+/// The words as request 8 has them.
+#[test]
+fn four_strings_print_words_and_floats() {
+    let strings: Vec<Vec<u8>> = received_frame()[..4]
+        .iter()
+        .map(|string| string.to_bytes().to_vec())
+        .collect();
+    let expected = "ok 0 1865 -1524643 0 29953275 0 1 59 2380845 1 -14498293 1 0 3 0 2002605 -2 \
+                    40188871 -29136 8 0 1 3 104 11 1 \
+                    bff743a300000000 0000000000000000 40cc90cfb0000000 \
+                    40022a1680000000 3e10000000000000 c0bba73ea0000000 \
+                    0000000000000000 3ffe8ead00000000 be20000000000000 40d329de38000000 \
+                    befc740000000000 3e40000000000000\n";
+    assert_eq!(
+        answer_payload(FOUR_STRINGS, &join_strings(&strings)),
+        expected
+    );
+}
+
+#[test]
+fn four_strings_are_refused_by_their_lengths_first() {
+    let padded = [0xFF; 11].to_vec();
+    let good = A.to_vec();
+    for (strings, line) in [
+        ([&padded, &good, &good, &vec![0; 10]], "no 2\n"),
+        ([&good, &vec![], &good, &good], "no 2\n"),
+        ([&good, &good, &good, &padded], "no 11\n"),
+        ([&good, &padded, &good, &good], "no 2\n"),
+    ] {
+        let payload = join_strings(&strings.map(Vec::clone));
+        assert_eq!(answer_payload(FOUR_STRINGS, &payload), line);
+    }
+}
+
+#[test]
+fn four_strings_and_no_more() {
+    let good = join_strings(&[A.to_vec(), A.to_vec(), A.to_vec(), A.to_vec()]);
+    assert_eq!(answer_payload(FOUR_STRINGS, &good), "no 11\n");
+    for length in 0..good.len() {
+        assert_eq!(answer_payload(FOUR_STRINGS, &good[..length]), "bad 16\n");
+    }
+    let more = [&good[..], &[0]].concat();
+    assert_eq!(answer_payload(FOUR_STRINGS, &more), "bad 16\n");
+    assert_eq!(answer_payload(FOUR_STRINGS, &[0; 4]), "no 2\n");
+}
+
 /// B at this epoch, as a field of a block.
 fn field_of_b(channel: u8, epoch: u8) -> Vec<u8> {
     let (_, payload) = offer_b(channel, epoch);
@@ -385,7 +460,7 @@ fn the_made_input_draws_every_kind_of_line() {
         "ok 0 ", "ok 85 ", "no 1", "no 2", "no 31", "no 32", "no 33", "no 4", "no 5", "no 6",
         "no 7", "no 8", "no 9", "no 10 76", "no 11", "no 12", "no 13", "no 14", "taken 1 ",
         "no 41 ", "no 42 ", "no 43 ", "end", "bad 0", "bad 4", "bad 5", "bad 6", "bad 12",
-        "bad 14", "bad 23", "short 10",
+        "bad 14", "bad 15", "bad 16", "bad 23", "short 10",
     ] {
         assert!(lines.lines().any(|line| line.starts_with(kind)), "{kind}");
     }
@@ -423,7 +498,7 @@ fn the_input_for_words_asks_no_station() {
     let ops: Vec<u8> = whole_requests(&input).map(|request| request.op).collect();
     assert!((FROM_RELATIVE..=WRITE).all(|op| ops.contains(&op)));
     assert!(!ops.iter().any(|op| (OFFER..=FRESH).contains(op)));
-    let others = [BLOCK, SUMMARY, ENTRY_WORDS];
+    let others = [BLOCK, SUMMARY, WORD_AS_FLOAT, FOUR_STRINGS, ENTRY_WORDS];
     assert!(!others.iter().any(|op| ops.contains(op)));
 }
 

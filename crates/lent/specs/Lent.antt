@@ -1,4 +1,4 @@
--- An offer to a station that is lent, and changed in its place (the paper, "Frames and the book" and "Numbers that say no"). For every station value.
+-- An offer to a station that is lent, and a reset of one, each changing it in its place (the paper, "Frames and the book" and "Numbers that say no"). For every station value.
 -- Assumes nothing.
 use Prim.Native.Nat.{ℕ}
 use mathlib.Core.Bool.{Bool}

@@ -1,5 +1,5 @@
-// An offer to a lent station. The row of its channel is copied out and back, and of the book the
-// entries that rise; the station never.
+// An offer to a lent station. The row of its channel is copied out and back, of the book the entries
+// that rise and, where one changed, its lines for the walk that sums them up; the station never.
 use crate::telling::told_in;
 use book::Shown;
 use book::join;

@@ -1,13 +1,11 @@
--- What the measured calls promise leaves one answer and one output (relative-tells-once, check-tells-once, read-tells-once, write-tells-once).
+-- What the measured calls promise leaves one answer and one output (relative-tells-once, read-tells-once, write-tells-once).
 -- Assumes nothing.
 use Prim.Native.Nat.{ℕ}
 use mathlib.Core.List.{List}
 use mathlib.Core.Path.{_≡_, sym, ap, _∙_}
 use lib.IntN.{ℤ}
 use Rattle.strings.specs.declared.Written.{Written}
-use Rattle.strings.specs.declared.Checked.{Checked}
-use Rattle.strings.specs.Calls.{writtenPaper, checkedPaper}
-use Rattle.strings.proofs.CheckRule.{check-once}
+use Rattle.strings.specs.Calls.{writtenPaper}
 use Rattle.relative.specs.declared.Decoded.{Decoded}
 use Rattle.relative.specs.Calls.{decodedPaper}
 use Rattle.relative.proofs.RelativeCode.{reads-once}
@@ -16,7 +14,7 @@ use Rattle.words.specs.Calls.{readingPaper}
 use Rattle.words.proofs.RoundTrips.{read-once, write-once}
 use Rattle.records.specs.Records.{recordOf}
 use Rattle.told.specs.Told.{packed}
-use Rattle.measured.specs.Parts.{TellsRelative, TellsCheck, kindBy, wordsLeft, TellsRead, TellsWrite}
+use Rattle.measured.specs.Parts.{TellsRelative, kindBy, wordsLeft, TellsRead, TellsWrite}
 
 -- ---- a call that answers the same is told the same
 written-once : {r q : ℕ} (w v : Written) → w ≡ v → r ≡ packed (writtenPaper w) → q ≡ packed (writtenPaper v) → r ≡ q
@@ -27,11 +25,6 @@ module _ (s out : List ℕ) (r q : ℕ) (out′ out″ : List ℕ) where
   relative-tells-once a b =
       let e = reads-once s out (a .call) out′ (b .call) out″ (a .made) (b .made) in
       (a .answer ∙ ap (λ (x : Decoded). packed (decodedPaper x)) (e .0) ∙ sym (b .answer), e .1)
-
-  pub check-tells-once : TellsCheck s out r out′ → TellsCheck s out q out″ → (r ≡ q) × (out′ ≡ out″)
-  check-tells-once a b =
-      let e = check-once s out (a .call) (b .call) out′ out″ (a .made) (b .made) in
-      (a .answer ∙ ap (λ (x : Checked). packed (checkedPaper x)) (e .0) ∙ sym (b .answer), e .1)
 
 module _ (s : List ℕ) (kind : ℕ) (out : List ℤ) (r q : ℕ) (out′ out″ : List ℤ) where
   pub read-tells-once : TellsRead s kind out r out′ → TellsRead s kind out q out″ → (r ≡ q) × (out′ ≡ out″)

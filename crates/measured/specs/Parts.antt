@@ -6,8 +6,7 @@ use mathlib.Core.Path.{_≡_}
 use lib.IntN.{ℤ}
 use lib.ListN.{getD}
 use Rattle.strings.specs.declared.Written.{Written}
-use Rattle.strings.specs.declared.Checked.{Checked}
-use Rattle.strings.specs.Calls.{writtenPaper, checkedPaper, Checks}
+use Rattle.strings.specs.Calls.{writtenPaper}
 use Rattle.relative.specs.declared.Decoded.{Decoded}
 use Rattle.relative.specs.Calls.{decodedPaper, ReadsRelative}
 use Rattle.records.specs.declared.kinds.Kind.{Kind}
@@ -23,12 +22,6 @@ pub record TellsRelative (s out : List ℕ) (r : ℕ) (out′ : List ℕ) : Type
   pub call : Decoded
   pub made : ReadsRelative s out call out′
   pub answer : r ≡ packed (decodedPaper call)
-
--- ---- a check
-pub record TellsCheck (s out : List ℕ) (r : ℕ) (out′ : List ℕ) : Type 0 where
-  pub call : Checked
-  pub made : Checks s out call out′
-  pub answer : r ≡ packed (checkedPaper call)
 
 -- ---- the kind of a number, 1 to 8; any other number counts as 8
 abbrev pub kindBy : ℕ → Kind

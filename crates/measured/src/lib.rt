@@ -3,7 +3,6 @@
 mod parts;
 mod whole;
 
-pub use parts::measured_check;
 pub use parts::measured_read;
 pub use parts::measured_relative;
 pub use parts::measured_write;

@@ -1,9 +1,8 @@
-// A string read, checked, its words read and written. Each answers the numbers of the call that it
+// A string read, its words read and written. Each answers the numbers of the call that it
 // makes, in one.
 use records::Kind;
 use relative::Decoded;
 use relative::polarity_number;
-use told::checked_told;
 use told::refusal_told;
 use told::written_told;
 use words::Reading;
@@ -12,20 +11,13 @@ ghost use mathlib.Core.List.{[], _∷_};
 ghost use Rattle.relative.specs.Calls.{decodedPaper};
 ghost use Rattle.told.specs.Told.{packed};
 ghost use Rattle.layout.specs.Layout.{kindNumber};
-ghost use Rattle.measured.specs.Parts.{TellsRelative, TellsCheck, kindBy, TellsRead, TellsWrite};
+ghost use Rattle.measured.specs.Parts.{TellsRelative, kindBy, TellsRead, TellsWrite};
 
 #[no_mangle]
 pub extern "C" fn measured_relative(s: &[u8], out: &mut [u8]) -> u64
     ensures { λ r. ⌜ TellsRelative (now (s .entry)) (now (out .entry)) r (now (out .exit)) ⌝ }
 {
     decoded_told(relative::from_relative(s, out))
-}
-
-#[no_mangle]
-pub extern "C" fn measured_check(s: &[u8], out: &mut [u8]) -> u64
-    ensures { λ r. ⌜ TellsCheck (now (s .entry)) (now (out .entry)) r (now (out .exit)) ⌝ }
-{
-    checked_told(strings::check(s, out))
 }
 
 // Reads the words of a kind, 1 to 8, into eight places.

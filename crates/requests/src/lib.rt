@@ -4,6 +4,7 @@
 mod answers;
 mod block_calls;
 mod block_stream;
+mod float_calls;
 mod line;
 mod numbers;
 mod station_answers;
@@ -18,6 +19,8 @@ use answers::say_bad;
 use answers::say_short;
 use block_calls::block_call;
 pub use block_stream::list_block;
+use float_calls::float_call;
+use float_calls::record_call;
 use libc::STDIN_FILENO;
 use libc::STDOUT_FILENO;
 use line::Text;
@@ -67,6 +70,8 @@ fn told(op: u8, payload: &[u8], st: Station, text: &mut Text) -> usize
         5 => write_call(payload, text),
         8 | 9 | 10 | 11 | 23 => query_call(op, payload, st, text),
         14 => summary_call(payload, st, text),
+        15 => float_call(payload, text),
+        16 => record_call(payload, text),
         _ => say_bad(text, op),
     }
 }

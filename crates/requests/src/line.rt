@@ -44,7 +44,7 @@ pub(crate) fn put_next(text: &mut Text, at: usize, n: u64) -> usize
 }
 
 // A number that may be negative, in decimal.
-fn put_signed(text: &mut Text, at: usize, z: i32) -> usize
+pub(crate) fn put_signed(text: &mut Text, at: usize, z: i32) -> usize
     requires { ⌜ at ≤ 512 ⌝ }
     ensures { λ r. ⌜ r ≤ 512 ⌝ }
 {

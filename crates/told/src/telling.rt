@@ -21,12 +21,12 @@ pub fn written_told(w: Written) -> u64
 }
 
 // What a check answers: 0 and the verdict's numbers, or the refusal's.
-pub fn checked_told(c: Checked) -> u64
+pub fn checked_told(c: Checked) -> u32
     ensures { λ r. ⌜ r ≡ packed (checkedPaper c) ⌝ }
 {
     match c {
-        Checked::Taken(v) => 256 * (verdict_told(v) as u64),
-        Checked::Refused(why) => refusal_told(why) as u64,
+        Checked::Taken(v) => 256 * (verdict_told(v) as u32),
+        Checked::Refused(why) => refusal_told(why) as u32,
     }
 }
 

@@ -2,11 +2,12 @@
 
 use std::collections::VecDeque;
 
+use super::faults::out_of_range;
 use super::hearing::{
     drawn_by, heard, Hearing, Odds, Sent, CORRODED_CHANNEL, GOOD_CHANNEL, POOR_CHANNEL,
 };
 use super::satellite::{day_after, on_day, Day, Satellite, Upload, FRAMES_IN_A_SUPERFRAME};
-use crate::alter::{codes_out_of_range, minus_zero, with_bit_inverted, with_code};
+use crate::alter::{minus_zero, with_bit_inverted, with_code};
 use crate::listing::Record;
 use crate::random::SplitMix64;
 use crate::station::frame::STRINGS_IN_A_FRAME;
@@ -251,13 +252,6 @@ fn add_oddities(random: &mut SplitMix64, strings: &mut [NavString]) {
         _ => return,
     };
     strings[odd.m() - 1] = odd;
-}
-
-fn out_of_range(random: &mut SplitMix64, kind: &Kind, string: &NavString) -> NavString {
-    match kind.words_with_range().next() {
-        Some(word) => with_code(string, word, random.one_of(&codes_out_of_range(word))),
-        None => *string,
-    }
 }
 
 fn with_minus_zero(random: &mut SplitMix64, kind: &Kind, string: &NavString) -> NavString {

@@ -7,7 +7,7 @@ mod frames;
 mod health;
 pub(super) mod health_flags;
 pub(super) mod polarity;
-mod record;
+pub(super) mod record;
 mod refusals;
 mod sky;
 pub(super) mod summary;

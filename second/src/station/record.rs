@@ -11,7 +11,7 @@ use crate::words::read_words;
 /// The string numbers that a record is made of.
 pub const STRINGS_OF_A_RECORD: [usize; 4] = [1, 2, 3, 4];
 
-static KINDS_OF_A_RECORD: [&Kind; 4] = [&STRING_1, &STRING_2, &STRING_3, &STRING_4];
+pub static KINDS_OF_A_RECORD: [&Kind; 4] = [&STRING_1, &STRING_2, &STRING_3, &STRING_4];
 
 /// "The user navigation equipment analyzes the only one MSB of this word."
 const TOP_BIT_OF_B: i64 = 0b100;

@@ -23,6 +23,11 @@ impl Kind {
         self.words.iter().filter(|word| word.form == Form::Signed)
     }
 
+    /// The string numbers of all other kinds.
+    pub fn strings_of_others(&self) -> impl Iterator<Item = usize> + '_ {
+        (1..=15).filter(|m| !self.strings.contains(m))
+    }
+
     /// "Reserved bits": those of 80 to 9 that are in no word.
     pub fn reserved_bits(&self) -> impl Iterator<Item = usize> + '_ {
         let in_a_word = |bit: &usize| self.words.iter().any(|word| word.holds(*bit));

@@ -4,7 +4,7 @@ use super::super::satellite::{day_after, on_day, Upload, FRAMES_IN_A_SUPERFRAME}
 use super::super::Input;
 use super::refusals::WRONG_SLOTS;
 use super::SOME_START;
-use crate::alter::{codes_out_of_range, minus_zero, with_code};
+use crate::alter::{codes_at_ends, codes_out_of_range, minus_zero, with_code};
 use crate::known;
 use crate::request::ENTRY_WORDS;
 use crate::station::book::{Entry, SLOTS};
@@ -163,21 +163,19 @@ fn words_but_slot() -> impl Iterator<Item = (usize, &'static Word)> {
 fn codes_at_ends_of_words() -> Vec<(usize, &'static Word, u128)> {
     words_but_slot()
         .flat_map(|(half, word)| {
-            let codes = codes_at_ends(word).into_iter();
+            let codes = codes_of(word).into_iter();
             codes.map(move |code| (half, word, code))
         })
         .collect()
 }
 
-/// All legal codes of a short word; of a longer one the ends of the whole and of
-/// each half, with their neighbours.
-fn codes_at_ends(word: &Word) -> Vec<u128> {
-    let (half, end) = (minus_zero(word), 1 << word.width());
+/// All legal codes of a short word; of a longer one those at its ends.
+fn codes_of(word: &Word) -> Vec<u128> {
     if word.width() > WIDTH_OF_ALL_CODES {
-        return vec![0, 1, half - 2, half - 1, half, half + 1, end - 2, end - 1];
+        return codes_at_ends(word).to_vec();
     }
     let out_of_range = codes_out_of_range(word);
-    (0..end)
+    (0..1 << word.width())
         .filter(|code| !out_of_range.contains(code))
         .collect()
 }

@@ -88,7 +88,7 @@ impl Input {
 }
 
 /// All orders of strings 1 to 4.
-fn orders() -> Vec<[usize; 4]> {
+pub(in super::super) fn orders() -> Vec<[usize; 4]> {
     let mut orders = Vec::new();
     for code in 0..256 {
         let order = [0, 2, 4, 6].map(|shift| (code >> shift & 3) + 1);

@@ -2,7 +2,9 @@
 
 use super::super::{Input, WRONG_LENGTHS};
 use super::WRONG_KINDS;
-use crate::alter::{codes_out_of_range, minus_zero, with_bit_inverted, with_code, with_m};
+use crate::alter::{
+    codes_at_ends, codes_out_of_range, minus_zero, with_bit_inverted, with_code, with_m,
+};
 use crate::hamming;
 use crate::known;
 use crate::request::{self, READ};
@@ -233,8 +235,7 @@ fn padded(bytes: &[u8; BYTES], padding: u8) -> [u8; BYTES] {
 }
 
 fn another_m(kind: &Kind) -> usize {
-    let is_other = |m: &usize| !kind.strings.contains(m);
-    (1..=15).find(is_other).expect("no kind has all m")
+    kind.strings_of_others().next().expect("no kind has all m")
 }
 
 /// All codes of a short word; of a longer one the ends of the whole, of each half
@@ -244,8 +245,7 @@ fn codes_to_read(word: &Word) -> Vec<u128> {
     if word.width() <= WIDTH_OF_ALL_CODES {
         return (0..end).collect();
     }
-    let half = minus_zero(word);
-    let mut codes = vec![0, 1, half - 2, half - 1, half, half + 1, end - 2, end - 1];
+    let mut codes = codes_at_ends(word).to_vec();
     if let Form::Within { least, greatest } = word.form {
         codes.extend([least - 1, least, greatest, greatest + 1].map(|code| code as u128));
     }

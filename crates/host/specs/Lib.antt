@@ -1,0 +1,4 @@
+pub mod Host
+pub mod Parts
+pub mod Laws
+pub mod Known

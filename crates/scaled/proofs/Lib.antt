@@ -1,0 +1,5 @@
+pub mod Once
+pub mod Product
+pub mod Pattern
+pub mod Exactly
+pub mod Listed

@@ -1,0 +1,3 @@
+pub mod Scaled
+pub mod Units
+pub mod Known
