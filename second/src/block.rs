@@ -55,7 +55,7 @@ impl Iterator for Fields<'_> {
 }
 
 /// The field and the bytes behind it. Order of refusals: 43, 41, 42.
-fn first_field(rest: &[u8]) -> Result<(Field, &[u8]), FieldTrouble> {
+pub fn first_field(rest: &[u8]) -> Result<(Field, &[u8]), FieldTrouble> {
     let (tag, content, behind) = framing::split_first(rest).ok_or(FieldTrouble::EndsInside)?;
     let field = match tag {
         OFFER => offer_in(content),

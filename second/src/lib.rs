@@ -16,6 +16,7 @@ pub mod random;
 pub mod refusal;
 pub mod relative;
 pub mod request;
+pub mod salvage;
 pub mod scaled;
 pub mod station;
 pub mod stream;

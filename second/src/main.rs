@@ -4,6 +4,7 @@ use std::ffi::OsString;
 use std::io::{self, BufReader, BufWriter, Read, Write};
 use std::process::ExitCode;
 
+use second::salvage::salvage;
 use second::{listing, logger, make, trial};
 
 const USAGE: &str = "usage:
@@ -13,13 +14,18 @@ const USAGE: &str = "usage:
   second make listing SEED COUNT   write COUNT records for the listing
   second make block SEED COUNT     write a block of COUNT fields and one that is refused
   second make logger SEED          write 2,000 plain strings for the logger
+  second make torn SEED BYTES      write a torn file of so many bytes
+  second make torn-edges SEED      write a torn file for windows of 256 KiB
   second make sample               write a few records for the listing
   second make sample trial         write the same records as an input for trial
   second answer trial              read an input for trial, write the expected output
   second answer listing            read records, write the expected lines
   second answer block              read one block, write the expected lines
   second answer logger             read plain strings, write the expected lines
-SEED and COUNT are decimal numbers from 0 to 18446744073709551615.";
+  second answer salvage            read a torn file, write the fields that are kept
+  second answer salvage-list       read a torn file, write a line for each skipped stretch
+  second answer salvage-records    read a torn file, write the records of the kept offers
+SEED, COUNT and BYTES are decimal numbers from 0 to 18446744073709551615.";
 
 const WRONG_ARGUMENTS: u8 = 2;
 
@@ -31,11 +37,16 @@ enum Command {
     MakeListing { seed: u64, count: u64 },
     MakeBlock { seed: u64, count: u64 },
     MakeLogger { seed: u64 },
+    MakeTorn { seed: u64, count: u64 },
+    MakeTornEdges { seed: u64 },
     MakeSampleListing,
     AnswerTrial,
     AnswerListing,
     AnswerBlock,
     AnswerLogger,
+    AnswerSalvage,
+    AnswerSalvageList,
+    AnswerSalvageRecords,
 }
 
 fn main() -> ExitCode {
@@ -75,11 +86,21 @@ fn parse(arguments: &[OsString]) -> Option<Command> {
         ["make", "logger", seed] => Command::MakeLogger {
             seed: seed.parse().ok()?,
         },
+        ["make", "torn", seed, count] => Command::MakeTorn {
+            seed: seed.parse().ok()?,
+            count: count.parse().ok()?,
+        },
+        ["make", "torn-edges", seed] => Command::MakeTornEdges {
+            seed: seed.parse().ok()?,
+        },
         ["make", "sample"] => Command::MakeSampleListing,
         ["answer", "trial"] => Command::AnswerTrial,
         ["answer", "listing"] => Command::AnswerListing,
         ["answer", "block"] => Command::AnswerBlock,
         ["answer", "logger"] => Command::AnswerLogger,
+        ["answer", "salvage"] => Command::AnswerSalvage,
+        ["answer", "salvage-list"] => Command::AnswerSalvageList,
+        ["answer", "salvage-records"] => Command::AnswerSalvageRecords,
         _ => return None,
     };
     Some(command)
@@ -95,6 +116,8 @@ fn run(command: Command) -> io::Result<()> {
         Command::MakeListing { seed, count } => make::write_listing(seed, count, &mut output)?,
         Command::MakeBlock { seed, count } => output.write_all(&make::block(seed, count))?,
         Command::MakeLogger { seed } => output.write_all(&make::logger_input(seed))?,
+        Command::MakeTorn { seed, count } => make::write_torn(seed, count, &mut output)?,
+        Command::MakeTornEdges { seed } => output.write_all(&make::torn_edges(seed))?,
         Command::MakeSampleListing => output.write_all(&make::sample_for_listing())?,
         Command::AnswerTrial => {
             output.write_all(trial::answer_input(&whole_input()?).as_bytes())?
@@ -108,6 +131,11 @@ fn run(command: Command) -> io::Result<()> {
         Command::AnswerLogger => {
             logger::answer_stream(BufReader::new(io::stdin().lock()), &mut output)?
         }
+        Command::AnswerSalvage => output.write_all(&salvage(&whole_input()?).kept)?,
+        Command::AnswerSalvageList => {
+            output.write_all(salvage(&whole_input()?).list().as_bytes())?
+        }
+        Command::AnswerSalvageRecords => output.write_all(&salvage(&whole_input()?).records())?,
     }
     output.flush()
 }

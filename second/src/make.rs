@@ -1,5 +1,5 @@
-//! Makes inputs: requests for `trial`, records for the listing, a long block and strings for
-//! the logger, from a seed.
+//! Makes inputs: requests for `trial`, records for the listing, a long block, strings for
+//! the logger and torn files, from a seed.
 
 mod damage;
 mod faults;
@@ -8,10 +8,14 @@ mod field_feed;
 mod hearing;
 mod logger;
 mod numbers;
+mod salvage;
 mod sample;
 mod satellite;
 mod station;
 mod strings;
+mod tearing;
+mod torn;
+mod torn_edges;
 mod words;
 
 use std::io::{self, Write};
@@ -44,6 +48,7 @@ pub fn trial_input(seed: u64) -> Vec<u8> {
             station::blocks::add_all,
             station::summary::add_all,
             numbers::add_all,
+            salvage::add_all,
         ],
     )
 }
@@ -83,6 +88,16 @@ pub fn block(seed: u64, count: u64) -> Vec<u8> {
 /// Plain strings for the logger.
 pub fn logger_input(seed: u64) -> Vec<u8> {
     logger::strings(seed)
+}
+
+/// A torn file of so many bytes, written as it is made.
+pub fn write_torn(seed: u64, count: u64, output: &mut impl Write) -> io::Result<()> {
+    torn::write_torn(seed, count, output)
+}
+
+/// A torn file with something across each edge of a window.
+pub fn torn_edges(seed: u64) -> Vec<u8> {
+    torn_edges::file(seed)
 }
 
 /// Tallies past their limit: some 260,000 offers, without a seed.

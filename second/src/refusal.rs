@@ -27,6 +27,11 @@ pub enum Refusal {
         trouble: FieldTrouble,
         place: usize,
     },
+    /// Names the byte of a torn file at which the next item begins.
+    Full {
+        room: Room,
+        byte: usize,
+    },
 }
 
 /// What the sums of a damaged string say: three numbers in the position of 3, which
@@ -62,6 +67,24 @@ impl FieldTrouble {
     }
 }
 
+/// What is full when a torn file is salvaged.
+#[derive(Clone, Copy, Debug, PartialEq, Eq)]
+pub enum Room {
+    /// "No room in the output for the next field."
+    Output,
+    /// "No room for the next stretch."
+    List,
+}
+
+impl Room {
+    fn number(self) -> u8 {
+        match self {
+            Room::Output => 44,
+            Room::List => 45,
+        }
+    }
+}
+
 impl Refusal {
     pub fn number(self) -> u8 {
         match self {
@@ -82,17 +105,20 @@ impl Refusal {
             Refusal::Nothing => 13,
             Refusal::Slot => 14,
             Refusal::Field { trouble, .. } => trouble.number(),
+            Refusal::Full { room, .. } => room.number(),
         }
     }
 }
 
 /// "A refusal answers its number, with the place for RANGE, and nothing more"; a block's
-/// "tells the byte place of the field".
+/// "tells the byte place of the field", salvage "says at which byte".
 impl fmt::Display for Refusal {
     fn fmt(&self, out: &mut fmt::Formatter) -> fmt::Result {
         write!(out, "no {}", self.number())?;
         match self {
-            Refusal::Range { place } | Refusal::Field { place, .. } => write!(out, " {place}"),
+            Refusal::Range { place }
+            | Refusal::Field { place, .. }
+            | Refusal::Full { byte: place, .. } => write!(out, " {place}"),
             _ => Ok(()),
         }
     }

@@ -22,6 +22,7 @@ pub const BLOCK: u8 = 13;
 pub const SUMMARY: u8 = 14;
 pub const WORD_AS_FLOAT: u8 = 15;
 pub const FOUR_STRINGS: u8 = 16;
+pub const SALVAGE: u8 = 17;
 pub const ENTRY_WORDS: u8 = 23;
 
 #[derive(Clone, Copy, Debug, PartialEq, Eq)]
@@ -101,6 +102,9 @@ pub fn values_to_bytes(values: &[i64]) -> Vec<u8> {
         .flat_map(|value| fits(value).to_be_bytes())
         .collect()
 }
+
+/// A file to be salvaged has at most so many bytes here.
+pub const LONGEST_FILE: usize = 96;
 
 /// Four strings, each after its length in one byte, and nothing behind them.
 pub fn split_strings(mut payload: &[u8]) -> Option<[&[u8]; 4]> {

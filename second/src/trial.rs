@@ -3,6 +3,7 @@
 
 mod block;
 mod host;
+mod salvage;
 mod station;
 mod strings;
 mod words;
@@ -10,7 +11,7 @@ mod words;
 use crate::refusal::Refusal;
 use crate::request::{self, Piece, Request};
 use crate::station::Station;
-use crate::string::{NavString, BYTES};
+use crate::string::BYTES;
 
 type Answer = Result<String, Refusal>;
 
@@ -69,6 +70,7 @@ fn call(station: &mut Station, request: Request) -> Option<Answer> {
         request::SUMMARY => station::summary(station, payload),
         request::WORD_AS_FLOAT => host::word(payload),
         request::FOUR_STRINGS => host::record(payload),
+        request::SALVAGE => salvage::salvage(payload),
         request::ENTRY_WORDS => station::entry_words(station, payload),
         _ => None,
     }
@@ -82,8 +84,7 @@ fn require_room(room: u8) -> Result<(), Refusal> {
     }
 }
 
-fn hex(string: &NavString) -> String {
-    let bytes = string.to_bytes();
+fn hex(bytes: &[u8]) -> String {
     bytes.iter().map(|byte| format!("{byte:02x}")).collect()
 }
 

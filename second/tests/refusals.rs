@@ -1,8 +1,8 @@
 //! The numbers of the paper's table, 31 to 33 in the position of 3, 41 to 43 for the
-//! fields of a block, and SHAPE and IDLE where strings come in.
+//! fields of a block, 44 and 45 for salvage, and SHAPE and IDLE where strings come in.
 
 use second::known::{a, A};
-use second::refusal::{Damage, FieldTrouble, Refusal};
+use second::refusal::{Damage, FieldTrouble, Refusal, Room};
 use second::relative::to_relative;
 use second::string::NavString;
 
@@ -37,14 +37,22 @@ fn numbers_are_those_of_the_table() {
             trouble: FieldTrouble::EndsInside,
             place: 0,
         },
+        Refusal::Full {
+            room: Room::Output,
+            byte: 0,
+        },
+        Refusal::Full {
+            room: Room::List,
+            byte: 0,
+        },
     ];
     let numbers: Vec<u8> = in_order.iter().map(|refusal| refusal.number()).collect();
-    let expected = [1, 2, 31, 32, 33].into_iter().chain(4..=14).chain(41..=43);
+    let expected = [1, 2, 31, 32, 33].into_iter().chain(4..=14).chain(41..=45);
     assert_eq!(numbers, expected.collect::<Vec<u8>>());
 }
 
 #[test]
-fn only_range_and_a_field_name_a_place() {
+fn only_range_a_field_and_a_torn_file_name_a_place() {
     assert_eq!(Refusal::Shape.to_string(), "no 2");
     assert_eq!(Refusal::Range { place: 69 }.to_string(), "no 10 69");
     let refusal = Refusal::Field {
@@ -52,6 +60,11 @@ fn only_range_and_a_field_name_a_place() {
         place: 70_000,
     };
     assert_eq!(refusal.to_string(), "no 43 70000");
+    let refusal = Refusal::Full {
+        room: Room::List,
+        byte: 4,
+    };
+    assert_eq!(refusal.to_string(), "no 45 4");
 }
 
 #[test]

@@ -5,8 +5,8 @@ use second::known::{a, received_frame, A, B, B_DAMAGED, B_INVERTED, FLIPS_THAT_D
 use second::relative::to_relative;
 use second::request::{
     append, join_strings, values_to_bytes, whole_requests, Piece, BLOCK, CHECK, ENTRY, ENTRY_WORDS,
-    FOUR_STRINGS, FRESH, FROM_RELATIVE, HEALTH, IMMEDIATE, OFFER, READ, RESET, SUMMARY, TALLIES,
-    TO_RELATIVE, WORD_AS_FLOAT, WRITE,
+    FOUR_STRINGS, FRESH, FROM_RELATIVE, HEALTH, IMMEDIATE, OFFER, READ, RESET, SALVAGE, SUMMARY,
+    TALLIES, TO_RELATIVE, WORD_AS_FLOAT, WRITE,
 };
 use second::string::NavString;
 use second::{make, trial};
@@ -391,6 +391,40 @@ fn a_refused_field_prints_its_number_and_place_and_no_more() {
     }
 }
 
+fn salvage(output: u8, list: u8, file: &[u8]) -> String {
+    answer_payload(SALVAGE, &[&[output, list], file].concat())
+}
+
+#[test]
+fn salvage_prints_what_is_kept_and_the_stretches() {
+    let torn = [9, 3, 0, 0, 2, 0, 1, 5, 7, 7];
+    assert_eq!(salvage(7, 2, &torn), "ok 03000002000105 0+1 8+2\n");
+    assert_eq!(salvage(255, 255, &torn[1..8]), "ok 03000002000105\n");
+    assert_eq!(salvage(0, 1, &[9, 9]), "ok - 0+2\n");
+    assert_eq!(salvage(0, 0, &[]), "ok -\n");
+}
+
+#[test]
+fn salvage_without_room_prints_number_and_byte_and_the_same() {
+    let torn = [9, 3, 0, 0, 2, 0, 1, 5, 7, 7];
+    assert_eq!(salvage(6, 2, &torn), "no 44 4 030000 0+1\n");
+    assert_eq!(salvage(2, 2, &torn), "no 44 1 - 0+1\n");
+    assert_eq!(salvage(0, 0, &torn[1..]), "no 44 0 -\n");
+    assert_eq!(salvage(7, 0, &torn), "no 45 0 -\n");
+    assert_eq!(salvage(7, 1, &torn), "no 45 8 03000002000105 0+1\n");
+}
+
+#[test]
+fn a_file_of_more_than_96_bytes_is_bad() {
+    let lines = [(96, "ok - 0+96\n"), (97, "bad 17\n"), (1000, "bad 17\n")];
+    for (length, line) in lines {
+        assert_eq!(salvage(255, 255, &vec![0; length]), line);
+    }
+    for payload in [&[][..], &[0]] {
+        assert_eq!(answer_payload(SALVAGE, payload), "bad 17\n");
+    }
+}
+
 #[test]
 fn queries_of_nothing_and_nowhere() {
     for (op, which, line) in [
@@ -459,8 +493,8 @@ fn the_made_input_draws_every_kind_of_line() {
     for kind in [
         "ok 0 ", "ok 85 ", "no 1", "no 2", "no 31", "no 32", "no 33", "no 4", "no 5", "no 6",
         "no 7", "no 8", "no 9", "no 10 76", "no 11", "no 12", "no 13", "no 14", "taken 1 ",
-        "no 41 ", "no 42 ", "no 43 ", "end", "bad 0", "bad 4", "bad 5", "bad 6", "bad 12",
-        "bad 14", "bad 15", "bad 16", "bad 23", "short 10",
+        "no 41 ", "no 42 ", "no 43 ", "no 44 ", "no 45 ", "end", "bad 0", "bad 4", "bad 5",
+        "bad 6", "bad 12", "bad 14", "bad 15", "bad 16", "bad 17", "bad 23", "short 10",
     ] {
         assert!(lines.lines().any(|line| line.starts_with(kind)), "{kind}");
     }
@@ -498,7 +532,14 @@ fn the_input_for_words_asks_no_station() {
     let ops: Vec<u8> = whole_requests(&input).map(|request| request.op).collect();
     assert!((FROM_RELATIVE..=WRITE).all(|op| ops.contains(&op)));
     assert!(!ops.iter().any(|op| (OFFER..=FRESH).contains(op)));
-    let others = [BLOCK, SUMMARY, WORD_AS_FLOAT, FOUR_STRINGS, ENTRY_WORDS];
+    let others = [
+        BLOCK,
+        SUMMARY,
+        WORD_AS_FLOAT,
+        FOUR_STRINGS,
+        SALVAGE,
+        ENTRY_WORDS,
+    ];
     assert!(!others.iter().any(|op| ops.contains(op)));
 }
 

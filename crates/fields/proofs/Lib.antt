@@ -5,4 +5,5 @@ pub mod Steps
 pub mod AsWritten
 pub mod EndToEnd
 pub mod OnceOnly
+pub mod Near
 pub mod Laws

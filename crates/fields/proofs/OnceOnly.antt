@@ -6,7 +6,6 @@ use mathlib.Core.Bool.{Bool, true, false, true≢false}
 use mathlib.Core.List.{List, [], _∷_, _++_}
 use mathlib.Core.Logic.{_↔_}
 use Prim.Native.Nat.{ℕ, _≤_, _<_}
-use native.Mathlib.Omega.{arith}
 use lib.Dec.{eqb, leb}
 use lib.ListN.{length, getD, drop}
 use lib.Seq.{drop-append-seam}
@@ -21,7 +20,7 @@ use Rattle.fields.specs.declared.Field.the-variants.{End, Offer, Reset, 
 use Rattle.fields.specs.Fields.{tagIn, isUnknown, testsIn, isGood, sizeIn, sizeAt, fieldPaper, toldOf, saidAt, Finds}
 use Rattle.fields.specs.Block.{callIn}
 use Rattle.fields.specs.Laws.{bytesAt, elsewhere, Same}
-use Rattle.fields.proofs.Whole.{good-parts, size-none, size-then, calls-then, front-length, good-front, alone, calls-front}
+use Rattle.fields.proofs.Whole.{good-parts, good-size, size-then, calls-then, front-length, good-front, alone, calls-front}
 use Rattle.fields.proofs.Tested.{good-tells, refused-tells, refused-never}
 
 -- ---- a field is known by its numbers
@@ -97,13 +96,6 @@ module _ (block : List ℕ) (at : ℕ) (f : Field) (after : ℕ) (h : Finds bloc
       exactly {made = []} {out = []} tt (record { answer = h .answer ∙ said-before block at l; output = refl })
 
 -- ---- A GOOD FIELD IS GOOD WHEREVER ITS BYTES STAND
-good-size : (rest : List ℕ) → 0 < sizeIn rest → isGood rest ≡ true
-good-size rest h = by (isGood rest) refl
-  where
-    by : (b : Bool) → isGood rest ≡ b → isGood rest ≡ true
-    by true e = e
-    by false e = absurd (omega (arith, h, size-none rest e))
-
 pub anywhere : (block : List ℕ) (at : ℕ) (before after : List ℕ) → 0 < sizeAt block at → Same block at (elsewhere before block at after) (length before)
 anywhere block at before after h =
     let rest = drop at block in

@@ -46,12 +46,20 @@ pub size-none : (rest : List ℕ) → isGood rest ≡ false → sizeIn rest ≡ 
 unfolding sizeIn
 size-none rest e = rw e
 
+-- and where there are some bytes of a field, it is good
+pub good-size : (rest : List ℕ) → 0 < sizeIn rest → isGood rest ≡ true
+good-size rest h = by (isGood rest) refl
+  where
+    by : (b : Bool) → isGood rest ≡ b → isGood rest ≡ true
+    by true e = e
+    by false e = absurd (omega (arith, h, size-none rest e))
+
 -- ---- a field with any bytes after it
 module _ (f q : List ℕ) (h : 3 ≤ length f) where
-  tag-then : tagIn (f ++ q) ≡ tagIn f
+  pub tag-then : tagIn (f ++ q) ≡ tagIn f
   tag-then = List·getD-append f q 0 0 (omega arith)
 
-  length-then : lengthIn (f ++ q) ≡ lengthIn f
+  pub length-then : lengthIn (f ++ q) ≡ lengthIn f
   length-then =
       ap (λ (l : List ℕ). valueOf (take 2 l)) (drop-append-le 1 f q (omega arith))
       ∙ ap valueOf (take-append-le 2 (drop 1 f) q (omega (arith, length-drop 1 f)))

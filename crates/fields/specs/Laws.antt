@@ -5,6 +5,7 @@ use mathlib.Core.List.{List, [], _∷_, _++_}
 use mathlib.Core.Logic.{_↔_}
 use mathlib.Core.Path.{_≡_}
 use lib.ListN.{length, take, drop}
+use Rattle.strings.specs.Number.{Bytes}
 use Rattle.strings.specs.Numbers.{Exactly}
 use Rattle.fields.specs.declared.Field.{Field}
 use Rattle.fields.specs.declared.Field.the-variants.{End}
@@ -47,6 +48,8 @@ pub record Laws : Type 0 where
   pub follow : (a b : List ℕ) → endIn a ≡ 0 ∷ [] → Follow a b
   -- a good field is good wherever its bytes stand
   pub anywhere : (block : List ℕ) (at : ℕ) (before after : List ℕ) → 0 < sizeAt block at → Same block at (elsewhere before block at after) (length before)
+  -- no byte further than 65,538 from its tag on is looked at: the same field stands there where the block is cut after them
+  pub near : (block : List ℕ) (at n : ℕ) → Bytes block → 65538 ≤ n → sizeAt (take (at + n) block) at ≡ sizeAt block at
   -- no second answer fits
   pub once : (block : List ℕ) (at : ℕ) (f g : Field) (after after′ : ℕ) → Finds block at f after → Finds block at g after′ → (f ≡ g) × (after ≡ after′)
   -- the end is told exactly at the end and past it; and before it each number exactly where its test is the first to fit

@@ -9,7 +9,7 @@ ghost use mathlib.Core.List.{_∷_};
 ghost use Prim.Native.Nat.{_+_, _≤_, _<_, _^_};
 ghost use lib.ListN.{length, drop};
 ghost use Rattle.fields.specs.declared.Field.the-variants.{Refused};
-ghost use Rattle.fields.specs.Fields.{lengthIn, isUnknown, isWrong, isCut, whyNumber, fieldPaper, toldOf, Finds};
+ghost use Rattle.fields.specs.Fields.{lengthIn, isUnknown, isWrong, isCut, sizeAt, whyNumber, fieldPaper, toldOf, Finds};
 
 // The field at a place, tested in the order 43, 41, 42, and the place after it.
 pub fn field_at(s: &[u8], at: usize) -> Found
@@ -34,6 +34,14 @@ pub fn field_at(s: &[u8], at: usize) -> Found
         return refused(Why::Length, at);
     }
     good(tag, at, after)
+}
+
+// How many bytes the good field at a place has, 0 where the field is refused and at the end.
+pub fn size_at(s: &[u8], at: usize) -> usize
+    ensures { λ r. ⌜ r ≡ sizeAt (now (s .entry)) at ⌝ }
+{
+    let found = field_at(s, at);
+    found.after - at
 }
 
 // The reading stays where a field is refused.

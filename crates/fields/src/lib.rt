@@ -5,6 +5,7 @@ pub mod reader;
 mod sixteen;
 
 pub use finding::field_at;
+pub use finding::size_at;
 pub use finding::why_number;
 pub use reader::next_at;
 pub use sixteen::channel_in;

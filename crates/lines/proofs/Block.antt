@@ -9,12 +9,13 @@ use native.Mathlib.Omega.{arith}
 use lib.ListN.{length, take, drop}
 use lib.Seq.{length-take-le, length-sets}
 use Rattle.station.specs.declared.Station.{Station}
+use Rattle.digits.specs.Text.{Puts}
 use Rattle.lines.specs.declared.Listed.{Listed}
 use Rattle.lines.specs.declared.Printed.{Printed}
 use Rattle.lines.specs.Line.{Lists}
-use Rattle.lines.specs.Text.{lineBytes, lineText, leftOver, recordAt, stationAt, linesAt, listing, Puts, Prints}
+use Rattle.lines.specs.Text.{lineBytes, lineText, leftOver, recordAt, stationAt, linesAt, listing, Prints}
 use Rattle.lines.proofs.Tells.{line-is}
-use Rattle.lines.proofs.Pieces.{puts-as, puts-more, puts-none}
+use Rattle.digits.proofs.Pieces.{puts-as, puts-more, puts-none}
 
 -- the bytes of record i, as the code takes them
 abbrev pub sixteen : List ℕ → ℕ → List ℕ

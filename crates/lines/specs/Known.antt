@@ -12,7 +12,8 @@ use Rattle.relative.specs.Known.{B, inverseB}
 use Rattle.channel.specs.Row.{emptyRow, holdsFrame}
 use Rattle.station.specs.Station.{freshStation}
 use Rattle.lines.specs.Line.{lineFor}
-use Rattle.lines.specs.Text.{decimal, space, lineFeed, lineText, short, leftOver, stationAt, linesAt, listing}
+use Rattle.digits.specs.Text.{decimal, space, lineFeed}
+use Rattle.lines.specs.Text.{lineText, short, leftOver, stationAt, linesAt, listing}
 
 -- "`00 00000064` + B inverted, `18 00000007` + B, then three bytes"
 abbrev pub example : List ℕ

@@ -3,44 +3,15 @@
 use crate::Line;
 use crate::Printed;
 use crate::records::list_record;
+use digits::put;
+use digits::put_number;
+use digits::put_numbers;
 use station::Station;
 ghost use mathlib.Core.Path.{_≡_};
 ghost use Prim.Native.Nat.{_+_, _*_, _/_, _≤_, _<_};
 ghost use lib.ListN.{length};
-ghost use Rattle.lines.specs.Text.{cell, row, numbersOf, lineDigits, Within, lineBytes, lineText, leftOver, Puts, Prints};
-
-// A piece as it is.
-fn put(text: &mut [u8], at: usize, s: &[u8]) -> usize
-    requires { ⌜ at + length (now s) ≤ length (now text) ⌝ }
-    ensures { λ r. ⌜ Puts (now (text .entry)) at (now (s .entry)) (now (text .exit)) r ⌝ }
-{
-    bytes::copy(s, &mut text[at..]);
-    at + s.len()
-}
-
-// A number in decimal, and one byte after it.
-fn put_number(text: &mut [u8], at: usize, n: u64, after: u8) -> usize
-    requires { ⌜ at + length (cell n after) ≤ length (now text) ⌝ }
-    ensures { λ r. ⌜ Puts (now (text .entry)) at (cell n after) (now (text .exit)) r ⌝ }
-{
-    let mut digits = [0u8; 20];
-    let k = io::decimal(n, &mut digits);
-    let end = put(text, at, &digits[..k]);
-    put(text, end, &[after])
-}
-
-// Numbers in decimal: a space after each, a line feed after the last.
-fn put_numbers(text: &mut [u8], at: usize, numbers: &[u64]) -> usize
-    requires { ⌜ (at + length (row (now numbers)) ≤ length (now text)) × (0 < length (now numbers)) ⌝ }
-    ensures { λ r. ⌜ Puts (now (text .entry)) at (row (now (numbers .entry))) (now (text .exit)) r ⌝ }
-{
-    let last = numbers.len() - 1;
-    let mut end = at;
-    for i in 0..last {
-        end = put_number(text, end, numbers[i], b' ');
-    }
-    put_number(text, end, numbers[last], b'\n')
-}
+ghost use Rattle.digits.specs.Text.{Within, Puts};
+ghost use Rattle.lines.specs.Text.{numbersOf, lineDigits, lineBytes, lineText, leftOver, Prints};
 
 // The numbers of a line, none with more digits than its type has.
 fn numbers_of(line: Line) -> [u64; 6]

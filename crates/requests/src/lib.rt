@@ -7,6 +7,7 @@ mod block_stream;
 mod float_calls;
 mod line;
 mod numbers;
+mod salvage_call;
 mod station_answers;
 mod station_calls;
 mod station_queries;
@@ -26,6 +27,7 @@ use libc::STDOUT_FILENO;
 use line::Text;
 use line::put_text;
 use numbers::pair;
+use salvage_call::salvage_call;
 use station::Station;
 use station_calls::Answered;
 use station_calls::fresh_call;
@@ -72,6 +74,7 @@ fn told(op: u8, payload: &[u8], st: Station, text: &mut Text) -> usize
         14 => summary_call(payload, st, text),
         15 => float_call(payload, text),
         16 => record_call(payload, text),
+        17 => salvage_call(payload, text),
         _ => say_bad(text, op),
     }
 }

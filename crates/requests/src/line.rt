@@ -25,7 +25,7 @@ fn copy_to(text: &mut [u8], at: usize, s: &[u8])
 }
 
 // A number in decimal.
-fn put_number(text: &mut Text, at: usize, n: u64) -> usize
+pub(crate) fn put_number(text: &mut Text, at: usize, n: u64) -> usize
     requires { ⌜ at ≤ 512 ⌝ }
     ensures { λ r. ⌜ r ≤ 512 ⌝ }
 {

@@ -13,7 +13,11 @@ use crate::string::NavString;
 pub fn from_relative(payload: &[u8]) -> Option<Answer> {
     with_room(payload, |symbols| {
         let (string, polarity) = relative::from_relative(&symbols);
-        Ok(format!("ok {} {}", hex(&string), polarity.number()))
+        Ok(format!(
+            "ok {} {}",
+            hex(&string.to_bytes()),
+            polarity.number()
+        ))
     })
 }
 
@@ -21,7 +25,7 @@ pub fn from_relative(payload: &[u8]) -> Option<Answer> {
 pub fn to_relative(payload: &[u8]) -> Option<Answer> {
     with_room(payload, |string| {
         let symbols = relative::to_relative(&string)?;
-        Ok(format!("ok {}", hex(&symbols)))
+        Ok(format!("ok {}", hex(&symbols.to_bytes())))
     })
 }
 
@@ -30,7 +34,7 @@ pub fn check(payload: &[u8]) -> Option<Answer> {
     with_room(payload, |string| {
         let (verdict, repaired) = hamming::check(&string)?;
         let bit = verdict.repaired_bit();
-        Ok(format!("ok {bit} {}", hex(&repaired)))
+        Ok(format!("ok {bit} {}", hex(&repaired.to_bytes())))
     })
 }
 

@@ -25,5 +25,5 @@ pub fn write(payload: &[u8]) -> Option<Answer> {
 fn write_in_room(room: u8, kind: &Kind, m: u8, values: &[i64]) -> Answer {
     require_room(room)?;
     let string = words::write(kind, usize::from(m), values)?;
-    Ok(format!("ok {}", hex(&string)))
+    Ok(format!("ok {}", hex(&string.to_bytes())))
 }

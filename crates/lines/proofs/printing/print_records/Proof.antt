@@ -3,7 +3,7 @@
 use Prim.Native.Nat.{_-_, _≤_}
 use native.Mathlib.Omega.{arith}
 use lib.ListN.{length-take, length-drop}
-use Rattle.lines.proofs.Pieces.{puts-room}
+use Rattle.digits.proofs.Pieces.{puts-room}
 use Rattle.lines.proofs.Block.{SoFar, none-yet, one-more, all-printed}
 use borrow.Author.Needs.{needs}
 use Rattle.lines.proofs.printing.print_records.Statement.{statement}

@@ -2,8 +2,8 @@
 use native.Mathlib.Omega.{arith}
 use borrow.Author.Tests.{eq-eqb, ne-eqb}
 use Rattle.lines.specs.Text.{leftOver}
-use Rattle.lines.proofs.Decimal.{cell-length}
-use Rattle.lines.proofs.Pieces.{puts-room, puts-more, puts-none}
+use Rattle.digits.proofs.Decimal.{cell-length}
+use Rattle.digits.proofs.Pieces.{puts-room, puts-more, puts-none}
 use borrow.Author.Needs.{needs}
 use Rattle.lines.proofs.printing.put_left_over.Statement.{statement}
 use Rattle.lines.proofs.printing.put_left_over.Tie as tie

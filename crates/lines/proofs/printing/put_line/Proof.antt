@@ -2,9 +2,10 @@
 use mathlib.Core.Path.{ap}
 use native.Mathlib.Omega.{arith}
 use lib.ListN.{length}
-use Rattle.lines.specs.Text.{row, lineDigits, lineText}
-use Rattle.lines.proofs.Pieces.{puts-as}
-use Rattle.lines.proofs.Row.{row-length}
+use Rattle.digits.specs.Text.{row}
+use Rattle.lines.specs.Text.{lineDigits, lineText}
+use Rattle.digits.proofs.Pieces.{puts-as}
+use Rattle.digits.proofs.Row.{row-length}
 use borrow.Author.Needs.{needs}
 use Rattle.lines.proofs.printing.put_line.Statement.{statement}
 use Rattle.lines.proofs.printing.put_line.Tie as tie

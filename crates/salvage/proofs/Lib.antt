@@ -1,0 +1,11 @@
+pub mod Places
+pub mod Items
+pub mod Rules
+pub mod Lists
+pub mod State
+pub mod Ends
+pub mod Parts
+pub mod Apart
+pub mod Written
+pub mod Moved
+pub mod Laws

@@ -1,0 +1,13 @@
+pub mod Near
+pub mod Held
+pub mod Left
+pub mod Works
+pub mod Moves
+pub mod Turning
+pub mod Written
+pub mod Down
+pub mod Looping
+pub mod Once
+pub mod Whole
+pub mod Records
+pub mod Laws
