@@ -1,17 +1,21 @@
--- A lent offer's loop: how many turns it takes, and that what is brought in each is for one of the book's slots (newly-in). What the turns make of the book is
--- said by `shows` (Turns).
+-- The loop of what is brought to a lent station's book: how many turns it takes, what is brought in each (inTurn), that it is for one of the book's slots
+-- (one-in, newly-in), and that all turns together bring all that is shown (all-brought, all-changed).
 -- Assumes nothing.
 use Prim.Native.Nat.{ℕ, zero, suc}
+use native.Mathlib.Omega.{arith}
 use mathlib.Core.Bool.{Bool, true, false, _||_}
 use mathlib.Core.List.{List, [], _∷_}
-use mathlib.Core.Path.{_≡_, refl}
-use lib.ListN.{getD}
+use mathlib.Core.Path.{_≡_, refl, _∙_, ap}
+use lib.ListN.{length, getD}
+use Rattle.book.specs.declared.Book.{Book}
 use Rattle.book.specs.declared.Shown.{Shown}
 use Rattle.book.specs.declared.Shown.the-variants.{Nothing}
 use Rattle.book.specs.Book.{InBook}
 use Rattle.channel.specs.Frame.{Frame}
-use Rattle.shows.specs.Shows.{newlyShown}
+use Rattle.shows.specs.Shows.{newlyShown, brought, changes}
+use Rattle.shows.specs.Changes.{AllInBook}
 use Rattle.shows.proofs.Shows.{in-book}
+use Rattle.shows.proofs.Turns.{upTo, changedTo, five-brought, five-changed}
 
 abbrev pub turns : ℕ
 turns = 5
@@ -27,18 +31,27 @@ or-before true false = refl
 or-before false true = refl
 or-before false false = refl
 
-abbrev AllIn : List Shown → Type 0
-AllIn [] = Unit {0}
-AllIn (x ∷ xs) = InBook x × AllIn xs
-
-one-in : (xs : List Shown) (j : ℕ) → AllIn xs → InBook (inTurn xs j)
+pub one-in : (xs : List Shown) (j : ℕ) → AllInBook xs → InBook (inTurn xs j)
 one-in [] j a = tt
 one-in (x ∷ xs) zero a = a .0
 one-in (x ∷ xs) (suc j) a = one-in xs j (a .1)
 
-pub newly-in : (t : Bool) (f : Frame) (j : ℕ) → InBook (inTurn (newlyShown t f) j)
-newly-in t f j = one-in (newlyShown t f) j (all-in t)
-  where
-    all-in : (t : Bool) → AllIn (newlyShown t f)
-    all-in true = (in-book f 6, (in-book f 8, (in-book f 10, (in-book f 12, (in-book f 14, tt)))))
-    all-in false = (tt, (tt, (tt, (tt, (tt, tt)))))
+pub newly-in : (t : Bool) (f : Frame) → AllInBook (newlyShown t f)
+newly-in true f = (in-book f 6, (in-book f 8, (in-book f 10, (in-book f 12, (in-book f 14, tt)))))
+newly-in false f = (tt, (tt, (tt, (tt, (tt, tt)))))
+
+-- ---- all turns
+five-in : (xs : List Shown) → length xs ≡ 5 → (inTurn xs 0 ∷ inTurn xs 1 ∷ inTurn xs 2 ∷ inTurn xs 3 ∷ inTurn xs 4 ∷ []) ≡ xs
+five-in [] l = absurd (omega (arith, l))
+five-in (a ∷ []) l = absurd (omega (arith, l))
+five-in (a ∷ b ∷ []) l = absurd (omega (arith, l))
+five-in (a ∷ b ∷ c ∷ []) l = absurd (omega (arith, l))
+five-in (a ∷ b ∷ c ∷ d ∷ []) l = absurd (omega (arith, l))
+five-in (a ∷ b ∷ c ∷ d ∷ e ∷ []) l = refl
+five-in (a ∷ b ∷ c ∷ d ∷ e ∷ f ∷ xs) l = absurd (omega (arith, l))
+
+pub all-brought : (b : Book) (xs : List Shown) → length xs ≡ 5 → upTo b (inTurn xs) turns ≡ brought b xs
+all-brought b xs l = five-brought b (inTurn xs) ∙ ap (brought b) (five-in xs l)
+
+pub all-changed : (b : Book) (xs : List Shown) → length xs ≡ 5 → changedTo b (inTurn xs) turns ≡ changes b xs
+all-changed b xs l = five-changed b (inTurn xs) ∙ ap (changes b) (five-in xs l)

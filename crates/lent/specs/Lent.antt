@@ -7,7 +7,7 @@ use mathlib.Core.Path.{_≡_}
 use Rattle.strings.specs.Numbers.{answerOf}
 use Rattle.book.specs.declared.Shown.{Shown}
 use Rattle.book.specs.Book.{joinedShown}
-use Rattle.shows.specs.Shows.{risesIn}
+use Rattle.shows.specs.Shows.{brought, risesIn, changes}
 use Rattle.station.specs.declared.Station.{Station}
 use Rattle.station.specs.Station.{stationTests, channelTests, toldIn, corrected, stationAfter, stationReset}
 use Rattle.told.specs.Told.{packed}
@@ -30,3 +30,8 @@ BringsOne st s st′ changed =
 -- "corrected at each change of an entry": the summary of the book as it is now; the rows and the book as they were
 abbrev pub SumsUp : Station → Bool → Station → Type 0
 SumsUp st changed st′ = st′ ≡ record { rows = st .rows; book = st .book; summary = corrected changed (st .book) (st .summary) }
+
+-- one after the other, and then the summary: all that is shown is brought to the book; the rows as they were
+abbrev pub BringsAll : Station → List Shown → Station → Type 0
+BringsAll st ss st′ =
+    st′ ≡ record { rows = st .rows; book = brought (st .book) ss; summary = corrected (changes (st .book) ss) (brought (st .book) ss) (st .summary) }

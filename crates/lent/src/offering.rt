@@ -10,7 +10,8 @@ use station::LAST_CHANNEL;
 use station::Station;
 use summary::walk_book;
 ghost use Rattle.book.specs.Book.{InBook};
-ghost use Rattle.lent.specs.Lent.{OffersLent, BringsOne, SumsUp};
+ghost use Rattle.shows.specs.Changes.{AllInBook};
+ghost use Rattle.lent.specs.Lent.{OffersLent, BringsAll, BringsOne, SumsUp};
 
 // Offers a string, in relative form and of any length, to a channel at an epoch. CHANNEL is told as
 // 1, before anything of the station is read.
@@ -27,12 +28,20 @@ pub extern "C" fn spineyarrow_offer(st: &mut Station, channel: u8, epoch: u32, s
     let told = told_in(offered.answer);
     st.rows[i] = offered.row;
     let shown = newly_shown(offered.answer, offered.row.present, offered.row.strings);
+    bring_all(st, shown);
+    told
+}
+
+// Brings all that is shown to the book, one after the other, and sums the book up.
+fn bring_all(st: &mut Station, shown: [Shown; 5])
+    requires { ⌜ AllInBook shown ⌝ }
+    ensures { λ _. ⌜ BringsAll (now (st .entry)) shown (now (st .exit)) ⌝ }
+{
     let mut changed = false;
     for j in 0..5 {
         changed = bring_one(st, shown[j]) | changed;
     }
     sum_up(st, changed);
-    told
 }
 
 // Joins what is shown to the book, in its place: an entry is copied only where what is shown rises.

@@ -1,15 +1,14 @@
 -- What is shown, brought to a book in turns: the book after some of them (upTo), and whether an entry has changed (changedTo). After five turns all is
--- brought (five-brought) and all changes are known (five-changed); of what an offer newly shows (newly-brought, newly-changed).
+-- brought (five-brought) and all changes are known (five-changed). What an offer newly shows, brought: as its frame shows, or nothing (newly-brought,
+-- newly-changed).
 -- Assumes nothing.
 use Prim.Native.Nat.{ℕ, zero, suc}
 use mathlib.Core.Bool.{Bool, true, false, _&&_, _||_}
 use mathlib.Core.List.{List, [], _∷_}
 use mathlib.Core.Path.{_≡_, refl, sym}
-use lib.ListN.{getD}
 use Rattle.strings.specs.Pick.{pick}
 use Rattle.book.specs.declared.Book.{Book}
 use Rattle.book.specs.declared.Shown.{Shown}
-use Rattle.book.specs.declared.Shown.the-variants.{Nothing}
 use Rattle.book.specs.Book.{joinedShown}
 use Rattle.channel.specs.Frame.{Frame}
 use Rattle.shows.specs.Shows.{showsOf, newlyShown, brought, risesIn, changes}
@@ -54,11 +53,12 @@ five-changed b at =
     one-of (risesIn (upTo b at 0) (at 0)) (risesIn (upTo b at 1) (at 1)) (risesIn (upTo b at 2) (at 2)) (risesIn (upTo b at 3) (at 3)) (risesIn (upTo b at 4) (at 4))
 
 -- ---- what an offer newly shows
-pub newly-brought : (b : Book) (t : Bool) (f : Frame) → upTo b (λ j. getD (newlyShown t f) j Nothing) 5 ≡ pick t (brought b (showsOf f)) b
+pub newly-brought : (b : Book) (t : Bool) (f : Frame) → brought b (newlyShown t f) ≡ pick t (brought b (showsOf f)) b
 unfolding brought joinedShown
 newly-brought b true f = refl
 newly-brought b false f = refl
 
-pub newly-changed : (b : Book) (t : Bool) (f : Frame) → changedTo b (λ j. getD (newlyShown t f) j Nothing) 5 ≡ (t && changes b (showsOf f))
-newly-changed b true f = five-changed b (λ j. getD (showsOf f) j Nothing)
+pub newly-changed : (b : Book) (t : Bool) (f : Frame) → changes b (newlyShown t f) ≡ (t && changes b (showsOf f))
+unfolding changes joinedShown
+newly-changed b true f = refl
 newly-changed b false f = refl

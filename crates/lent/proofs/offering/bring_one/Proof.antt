@@ -75,7 +75,7 @@ use Rattle.station.proofs.Station as ST
 use Rattle.station.proofs.Station.Laws as ST′
 use Rattle.lent.specs.Lent.{BringsOne}
 use Rattle.lent.proofs.Item.{map-set, either-way, lows-set, low-is, low-typed, low-item}
-use Rattle.lent.proofs.Parts.{entryBytes, bookAt, rowsVal, bookVal, stationVal, rows-of, summary-of, entries-of, book-made, made-of}
+use Rattle.lent.proofs.Parts.{entryBytes, bookAt, rowsVal, bookVal, stationVal, Whole, rows-of, summary-of, entries-of, book-made, made-of}
 use Rattle.lent.proofs.Walk.{envOf, locals, free-all, keeps, local-of, sets, asks}
 use Rattle.lent.proofs.offering.bring_one.Key.{name as #lent·bring-one}
 use Rattle.lent.proofs.offering.bring_one as one
@@ -164,19 +164,16 @@ module _ {M : Type 1} (𝓤 : URA M) (H : Heap 𝓤) (A : Atoms 𝓤) (W : Given
   abbrev us : List Val
   us = map EN′.lowered (h .book .entries)
 
-  abbrev Whole : Type 0
-  Whole = Is ST.the-row h (ST′.lowered h ∷ [])
-
   in-bytes : (k : ℕ) → k < slots → k * entryBytes < 2 ^ 64
   in-bytes k l = omega (arith, l)
 
-  old-is : (k : ℕ) → k < slots → Whole → Is EN.the-row (entryAt h k) (EN′.lowered (entryAt h k) ∷ [])
+  old-is : (k : ℕ) → k < slots → Whole h → Is EN.the-row (entryAt h k) (EN′.lowered (entryAt h k) ∷ [])
   old-is k l ih = low-is EN.the-type EN′.lowers slots (h .book .entries) (entries-of h _ ih) k l blank
 
   entry-typed : (e : Entry) → Is EN.the-row e (EN′.lowered e ∷ []) → T (hasTy EN′.mir (EN′.lowered e)) × WT (EN′.lowered e)
   entry-typed e p = LL.lawful EN.the-type EN′.the-laws 𝓤 H A W .typed e _ p .0
 
-  left-is : (k : ℕ) (e : Entry) → Is EN.the-row e (EN′.lowered e ∷ []) → Whole
+  left-is : (k : ℕ) (e : Entry) → Is EN.the-row e (EN′.lowered e ∷ []) → Whole h
       → Is ST.the-row (left h k e) (stationVal (rowsVal (h .rows)) (bookVal (arrayVal (map EN′.lowered (set (h .book .entries) k e)))) (SM′.lowered (h .summary)) ∷ [])
   left-is k e ie ih =
       let es = h .book .entries in

@@ -59,7 +59,7 @@ use Rattle.station.proofs.Station as ST
 use Rattle.station.proofs.Station.Laws as ST′
 use Rattle.lent.specs.Lent.{SumsUp}
 use Rattle.lent.proofs.Item.{either-way}
-use Rattle.lent.proofs.Parts.{rowsVal, bookVal, stationVal, rows-of, book-of, entries-of, made-of}
+use Rattle.lent.proofs.Parts.{rowsVal, bookVal, stationVal, Whole, rows-of, book-of, entries-of, made-of}
 use Rattle.lent.proofs.Walk.{envOf, locals, free-all, keeps, local-of, sets, asks}
 use Rattle.lent.proofs.offering.sum_up.Key.{name as #lent·sum-up}
 use Rattle.lent.proofs.offering.sum_up as sum
@@ -127,16 +127,13 @@ module _ {M : Type 1} (𝓤 : URA M) (H : Heap 𝓤) (A : Atoms 𝓤) (W : Given
       nothing ! $ join ! $ frame ! $ done !
 
   -- what the walk shows
-  abbrev Whole : Type 0
-  Whole = Is ST.the-row h (ST′.lowered h ∷ [])
-
-  entries-are : Whole → Entries
+  entries-are : Whole h → Entries
   entries-are ih = (us, ((refl, entries-of h _ ih .0), entries-of h _ ih .1))
 
   summary-typed : (z : Summary) → Is SM.the-row z (SM′.lowered z ∷ []) → T (hasTy SM′.mir (SM′.lowered z)) × WT (SM′.lowered z)
   summary-typed z p = LL.lawful SM.the-type SM′.the-laws 𝓤 H A W .typed z _ p .0
 
-  left-is : (z : Summary) → Is SM.the-row z (SM′.lowered z ∷ []) → Whole → Is ST.the-row (left h z) (stationVal (rowsVal (h .rows)) (bookVal (arrayVal us)) (SM′.lowered z) ∷ [])
+  left-is : (z : Summary) → Is SM.the-row z (SM′.lowered z ∷ []) → Whole h → Is ST.the-row (left h z) (stationVal (rowsVal (h .rows)) (bookVal (arrayVal us)) (SM′.lowered z) ∷ [])
   left-is z iz ih = made-of (h .rows) (h .book) z (rows-of h _ ih) (book-of h _ ih) iz
 
   module _ (C : Calls 𝓤 H) (Λ : Loops 𝓤 H) (fm : FmC 𝓤 H (W .laws) C) (known-walk : Triple 𝓤 (C #summary·walk-book) (Walk 𝓤 H A at-mem run)) where
