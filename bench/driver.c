@@ -24,7 +24,7 @@ static u8 sent[STRINGS][11], plain[STRINGS][11], wrong1[STRINGS][11], wrong2[STR
 static u8 number[STRINGS], kind[STRINGS], records[STRINGS * CHANNELS * RECORD], block[STRINGS * CHANNELS * FIELD];
 static double value, numbers[12];
 static int words[STRINGS][8], read[26], of_kind[KINDS + 1][STRINGS], many[KINDS + 1], now;
-/* a station lent to the library: 24 rows of 228 bytes, 24 entries of 24, and their summary; all zero is fresh */
+/* a station lent to the library: 24 rows, 24 entries of 24 bytes, and their summary; all zero is fresh. unproved and report.py read the row's size here */
 #ifndef ROW
 #define ROW 228
 #endif

@@ -1,4 +1,6 @@
 """report.py DIR: a table of the counts that bench/run left in DIR, each the mean over its samples."""
+import pathlib
+import re
 import sys
 
 from counts import KINDS, STRINGS, calls
@@ -25,6 +27,7 @@ row("an offer, station lent", x86["lent"], m0["lent"], share=STRINGS)
 row("an offer in a block, station lent", x86["lent-block"], m0["lent-block"], share=STRINGS)
 row("an offer, station by value", x86["by-value"], m0["by-value"], x86["fresh"], m0["fresh"], STRINGS)
 row("an offer in a block, station by value", x86["by-value-block"], m0["by-value-block"], x86["fresh"], m0["fresh"], STRINGS)
-STATION = 24 * 228 + 24 * 24 + 16
+ROW = int(re.search(r"^#define ROW (\d+)", (pathlib.Path(__file__).parent / "driver.c").read_text(), re.M)[1])
+STATION = 24 * ROW + 24 * 24 + 16
 print(f"\nMemory of a program with one station on the M0, bytes: lent {STATION + m0['lent'][2]:,}"
       f" ({STATION:,} resident and {m0['lent'][2]:,} of stack), in blocks {STATION + m0['lent-block'][2]:,}, by value {m0['by-value'][2]:,} of stack")
