@@ -26,7 +26,7 @@ static double value, numbers[12];
 static int words[STRINGS][8], read[26], of_kind[KINDS + 1][STRINGS], many[KINDS + 1], now;
 /* a station lent to the library: 24 rows, 24 entries of 24 bytes, and their summary; all zero is fresh. unproved and report.py read the row's size here */
 #ifndef ROW
-#define ROW 228
+#define ROW 276
 #endif
 static struct { u8 rows[24][ROW], book[24][24], summary[16]; } __attribute__((aligned(8))) station;
 

@@ -6,6 +6,7 @@ BEGIN {
     OFS = ", "
     words = split("P1 tk vx ax x  B P2 tb vy ay y  P3 gamma P l vz az z  tau dtau E P4 FT NT n M", name, " ")
     IMMEDIATE = 8; ENTRY = 9; TALLIES = 10; HEALTH = 11; SUMMARY = 14
+    causes = split("SHAPE,DAMAGED (31),DAMAGED (32),DAMAGED (33),IDLE,NUMBER,EARLY,STALE,OFF BEAT,CONFLICT", cause, ",")
     judged[1] = "usable"; judged[2] = "not usable"
     split("January February March April May June July August September October November December", month, " ")
     split("31 28 31 30 31 30 31 31 30 31 30 31", days, " ")
@@ -38,10 +39,17 @@ function hear(op, about, line) {
 function tell_channel(channel,    t) {
     split(tallies[channel], t, " ")
     printf "channel %d: %d offered, %d clean, %d repaired, %d refused\n", channel, t[2], t[3], t[4], t[5]
+    tell_causes(t)
     if (has_record(channel)) tell_record()
     else print "  no record yet"
     tell_health(channel)
     print ""
+}
+
+# Why strings were refused: after ok and the four come the tallies of the causes.
+function tell_causes(t,    k, told) {
+    for (k = 1; k <= causes; k++) if (t[5 + k] > 0) told = told (told ? OFS : "") cause[k] " " t[5 + k]
+    if (told) print "  refused: " told
 }
 
 # Whether there is a record: then w has its words by their names.

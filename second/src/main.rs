@@ -10,7 +10,8 @@ use second::{listing, logger, make, trial};
 const USAGE: &str = "usage:
   second make trial SEED           write an input for trial
   second make words SEED           write an input for trial: requests 1 to 5 alone
-  second make tallies              write an input for trial: tallies past 65,535
+  second make tallies              write an input for trial: a repair on each of 65,540 strings
+  second make limit                write an input for a trial with tallies near their limit
   second make listing SEED COUNT   write COUNT records for the listing
   second make block SEED COUNT     write a block of COUNT fields and one that is refused
   second make logger SEED          write 2,000 plain strings for the logger
@@ -19,6 +20,7 @@ const USAGE: &str = "usage:
   second make sample               write a few records for the listing
   second make sample trial         write the same records as an input for trial
   second answer trial              read an input for trial, write the expected output
+  second answer limit              the same, every tally beginning at 4,294,967,293
   second answer listing            read records, write the expected lines
   second answer block              read one block, write the expected lines
   second answer logger             read plain strings, write the expected lines
@@ -33,6 +35,7 @@ enum Command {
     MakeTrial { seed: u64 },
     MakeWords { seed: u64 },
     MakeTallies,
+    MakeLimit,
     MakeSampleTrial,
     MakeListing { seed: u64, count: u64 },
     MakeBlock { seed: u64, count: u64 },
@@ -41,6 +44,7 @@ enum Command {
     MakeTornEdges { seed: u64 },
     MakeSampleListing,
     AnswerTrial,
+    AnswerLimit,
     AnswerListing,
     AnswerBlock,
     AnswerLogger,
@@ -74,6 +78,7 @@ fn parse(arguments: &[OsString]) -> Option<Command> {
             seed: seed.parse().ok()?,
         },
         ["make", "tallies"] => Command::MakeTallies,
+        ["make", "limit"] => Command::MakeLimit,
         ["make", "sample", "trial"] => Command::MakeSampleTrial,
         ["make", "listing", seed, count] => Command::MakeListing {
             seed: seed.parse().ok()?,
@@ -95,6 +100,7 @@ fn parse(arguments: &[OsString]) -> Option<Command> {
         },
         ["make", "sample"] => Command::MakeSampleListing,
         ["answer", "trial"] => Command::AnswerTrial,
+        ["answer", "limit"] => Command::AnswerLimit,
         ["answer", "listing"] => Command::AnswerListing,
         ["answer", "block"] => Command::AnswerBlock,
         ["answer", "logger"] => Command::AnswerLogger,
@@ -112,6 +118,7 @@ fn run(command: Command) -> io::Result<()> {
         Command::MakeTrial { seed } => output.write_all(&make::trial_input(seed))?,
         Command::MakeWords { seed } => output.write_all(&make::words_input(seed))?,
         Command::MakeTallies => output.write_all(&make::tallies_input())?,
+        Command::MakeLimit => output.write_all(&make::limit_input())?,
         Command::MakeSampleTrial => output.write_all(&make::sample_for_trial())?,
         Command::MakeListing { seed, count } => make::write_listing(seed, count, &mut output)?,
         Command::MakeBlock { seed, count } => output.write_all(&make::block(seed, count))?,
@@ -121,6 +128,10 @@ fn run(command: Command) -> io::Result<()> {
         Command::MakeSampleListing => output.write_all(&make::sample_for_listing())?,
         Command::AnswerTrial => {
             output.write_all(trial::answer_input(&whole_input()?).as_bytes())?
+        }
+        Command::AnswerLimit => {
+            let lines = trial::answer_input_near_the_limit(&whole_input()?);
+            output.write_all(lines.as_bytes())?
         }
         Command::AnswerListing => {
             listing::answer_stream(BufReader::new(io::stdin().lock()), &mut output)?

@@ -100,17 +100,23 @@ pub fn torn_edges(seed: u64) -> Vec<u8> {
     torn_edges::file(seed)
 }
 
-/// Tallies past their limit: some 260,000 offers, without a seed.
+/// 65,540 repaired strings on one channel, without a seed.
 pub fn tallies_input() -> Vec<u8> {
-    let mut input = Input::new(0);
-    station::tallies::add_all(&mut input);
-    input.bytes
+    without_a_seed(station::tallies::add_all)
 }
 
-/// The sample needs no seed either.
+/// Tallies that reach their limit, for a station that is near it.
+pub fn limit_input() -> Vec<u8> {
+    without_a_seed(station::limit::add_all)
+}
+
 pub fn sample_for_trial() -> Vec<u8> {
+    without_a_seed(sample::add_all)
+}
+
+fn without_a_seed(add_all: fn(&mut Input)) -> Vec<u8> {
     let mut input = Input::new(0);
-    sample::add_all(&mut input);
+    add_all(&mut input);
     input.bytes
 }
 

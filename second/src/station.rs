@@ -33,6 +33,15 @@ pub enum Health {
 }
 
 impl Station {
+    /// Fresh, but that every tally of every channel has this count.
+    pub fn with_tallies_at(count: u32) -> Station {
+        let mut station = Station::default();
+        for row in &mut station.rows {
+            row.tallies = Tallies::all_at(count);
+        }
+        station
+    }
+
     /// Order of refusals: 1 to 9, and 31 to 33 in the position of 3.
     pub fn offer(&mut self, channel: usize, epoch: u32, symbols: &[u8]) -> Result<Taken, Refusal> {
         let row = self.rows.get_mut(channel).ok_or(Refusal::Channel)?;

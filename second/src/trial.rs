@@ -15,14 +15,34 @@ use crate::string::BYTES;
 
 type Answer = Result<String, Refusal>;
 
+/// What the tallies of the station near their limit have counted: two offers more, and they
+/// are there.
+const NEAR_THE_LIMIT: u32 = 4_294_967_293;
+
 /// The lines for a whole input. The station is fresh at its start.
 pub fn answer_input(input: &[u8]) -> String {
-    answers(input).map(|(_, answer)| answer + "\n").collect()
+    lines_of(answers(input))
+}
+
+/// The same, but every tally of every channel begins near its limit.
+pub fn answer_input_near_the_limit(input: &[u8]) -> String {
+    lines_of(answers_near_the_limit(input))
+}
+
+fn lines_of<'a>(answers: impl Iterator<Item = (Piece<'a>, String)>) -> String {
+    answers.map(|(_, answer)| answer + "\n").collect()
 }
 
 /// Each piece with its answer, without the last line feed.
 pub fn answers(input: &[u8]) -> impl Iterator<Item = (Piece<'_>, String)> {
-    let mut station = Station::default();
+    answers_from(Station::default(), input)
+}
+
+pub fn answers_near_the_limit(input: &[u8]) -> impl Iterator<Item = (Piece<'_>, String)> {
+    answers_from(Station::with_tallies_at(NEAR_THE_LIMIT), input)
+}
+
+fn answers_from(mut station: Station, input: &[u8]) -> impl Iterator<Item = (Piece<'_>, String)> {
     request::pieces(input).map(move |piece| (piece, answer_piece(&mut station, piece)))
 }
 

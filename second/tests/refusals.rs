@@ -2,24 +2,14 @@
 //! fields of a block, 44 and 45 for salvage, and SHAPE and IDLE where strings come in.
 
 use second::known::{a, A};
-use second::refusal::{Damage, FieldTrouble, Refusal, Room};
+use second::refusal::{FieldTrouble, Refusal, Room};
 use second::relative::to_relative;
+use second::station::tallies::CAUSES;
 use second::string::NavString;
 
 #[test]
 fn numbers_are_those_of_the_table() {
-    let in_order = [
-        Refusal::Channel,
-        Refusal::Shape,
-        Refusal::Damaged(Damage::WholeAlone),
-        Refusal::Damaged(Damage::WholeMissing),
-        Refusal::Damaged(Damage::PlaceAbove85),
-        Refusal::Idle,
-        Refusal::Number,
-        Refusal::Early,
-        Refusal::Stale,
-        Refusal::OffBeat,
-        Refusal::Conflict,
+    let others = [
         Refusal::Range { place: 69 },
         Refusal::Place,
         Refusal::Room,
@@ -46,6 +36,7 @@ fn numbers_are_those_of_the_table() {
             byte: 0,
         },
     ];
+    let in_order = [&[Refusal::Channel][..], &CAUSES, &others].concat();
     let numbers: Vec<u8> = in_order.iter().map(|refusal| refusal.number()).collect();
     let expected = [1, 2, 31, 32, 33].into_iter().chain(4..=14).chain(41..=45);
     assert_eq!(numbers, expected.collect::<Vec<u8>>());

@@ -14,6 +14,9 @@ use second::{make, trial};
 const A_HEX: &str = "0800000000000000000680";
 const B_HEX: &str = "0ffffffffffffffffffb00";
 
+/// The tallies of a channel that was offered nothing.
+const NO_OFFER: &str = "ok 0 0 0 0 0 0 0 0 0 0 0 0 0 0";
+
 fn answer_payload(op: u8, payload: &[u8]) -> String {
     let mut input = Vec::new();
     append(&mut input, op, payload);
@@ -230,7 +233,7 @@ fn queries_tell_of_the_received_frame() {
         "ok 0 1865 -1524643 0 29953275 0 1 59 2380845 1 -14498293 1 0 3 0 2002605 -2 40188871 \
          -29136 8 0 1 3 104 11 1",
         "ok 7409 b082059c4415530a7e 07a33d2bbf4bfeca5f",
-        "ok 15 15 0 0",
+        "ok 15 15 0 0 0 0 0 0 0 0 0 0 0 0",
         "ok 0",
     ];
     assert_eq!(answers(&requests)[15..], expected);
@@ -248,8 +251,8 @@ fn a_reset_and_a_fresh_station_print_ok() {
         (TALLIES, vec![0]),
         (RESET, vec![24]),
     ];
-    let counted = "ok 1 1 0 0";
-    let empty = "ok 0 0 0 0";
+    let counted = "ok 1 1 0 0 0 0 0 0 0 0 0 0 0 0";
+    let empty = NO_OFFER;
     let taken = "taken 1 0 1 0";
     assert_eq!(
         answers(&requests),
@@ -365,12 +368,12 @@ fn a_block_prints_the_lines_of_its_calls_and_how_it_ended() {
         "taken 1 0 1 0",
         "no 7",
         "end",
-        "ok 2 1 0 1",
+        "ok 2 1 0 1 0 0 0 0 0 0 0 1 0 0",
         "no 1",
         "no 1",
         "ok",
         "end",
-        "ok 0 0 0 0",
+        NO_OFFER,
         "end",
         "end",
     ];
@@ -386,7 +389,12 @@ fn a_refused_field_prints_its_number_and_place_and_no_more() {
     ] {
         let block = [&field_of_b(0, 100), refused, &field_of_b(1, 100)].concat();
         let requests = [(BLOCK, block), (TALLIES, vec![0]), (TALLIES, vec![1])];
-        let lines = ["taken 1 0 1 0", line, "ok 1 1 0 0", "ok 0 0 0 0"];
+        let lines = [
+            "taken 1 0 1 0",
+            line,
+            "ok 1 1 0 0 0 0 0 0 0 0 0 0 0 0",
+            NO_OFFER,
+        ];
         assert_eq!(answers(&requests), lines);
     }
 }
@@ -543,17 +551,43 @@ fn the_input_for_words_asks_no_station() {
     assert!(!others.iter().any(|op| ops.contains(op)));
 }
 
+/// The second offer is stale, the third one damaged, the last on another channel.
 #[test]
-fn the_input_for_tallies_reaches_the_limit_on_each() {
-    let lines = trial::answer_input(&make::tallies_input());
-    for line in [
-        "ok 65535 65535 0 0",
-        "ok 65535 0 65535 0",
-        "ok 65535 0 0 65535",
-        "ok 65535 21847 21846 21846",
+fn tallies_print_four_counts_and_the_ten_causes() {
+    let requests = [
+        offer_b(0, 100),
+        offer_b(0, 99),
+        offer_symbols(0, 100, &B_DAMAGED[1].1),
+        (OFFER, vec![0; 5]),
+        offer_b(24, 100),
+        (TALLIES, vec![0]),
+    ];
+    let line = "ok 4 1 0 3 1 0 1 0 0 0 0 1 0 0";
+    assert_eq!(answers(&requests)[5], line);
+}
+
+#[test]
+fn tallies_near_the_limit_begin_at_4_294_967_293_but_those_of_a_fresh_station() {
+    let mut input = Vec::new();
+    for (op, payload) in [
+        (TALLIES, vec![0]),
+        offer_b(0, 100),
+        (TALLIES, vec![0]),
+        (FRESH, vec![]),
+        (TALLIES, vec![0]),
     ] {
-        assert!(lines.lines().any(|other| other == line), "{line}");
+        append(&mut input, op, &payload);
     }
+    let start = " 4294967293";
+    let expected = [
+        format!("ok{}", start.repeat(14)),
+        String::from("taken 1 0 1 0"),
+        format!("ok 4294967294 4294967294{}", start.repeat(12)),
+        String::from("ok"),
+        String::from(NO_OFFER),
+    ];
+    let lines = trial::answer_input_near_the_limit(&input);
+    assert_eq!(lines.lines().collect::<Vec<_>>(), expected);
 }
 
 #[test]

@@ -15,7 +15,7 @@ use Rattle.words.specs.Good.{isGood as goodWords}
 use Rattle.book.specs.Entry.{entryOf, greater}
 use Rattle.book.specs.Shows.{dayOf, isShown, threeOf, shownBy}
 use Rattle.book.specs.Book.{emptyBook, joined as joinedBook, joinedShown}
-use Rattle.tallies.specs.Tallies.{oneMore}
+use Rattle.tallies.specs.Tallies.{oneMore, causesAfter}
 use Rattle.immediate.specs.Kept.{hasRecord}
 use Rattle.channel.specs.Row.{isPresent, holdsFrame, emptyRow, newFrame, stored, heldWith, counted}
 use Rattle.channel.specs.Offers.{takenRow}
@@ -25,6 +25,7 @@ use Rattle.fields.specs.Fields.{isGood, sizeIn}
 use Rattle.fields.specs.Block.{Offer, Reset, callIn, fieldsOver, fieldsIn, callsOf, callsIn, joined, endFrom, endIn}
 use Rattle.station.specs.declared.Station.{Station}
 use Rattle.station.specs.Station.{freshStation, noRow, rowAt, stationAfter, stationReset}
+use Rattle.station.specs.Queries.{allCounts}
 use Rattle.blocks.specs.Taking.{answerIn, afterCall, afterCalls, answersTo}
 
 -- string 1 was taken on channel 3 at epoch 100, and string 2 on channel 7 at epoch 101
@@ -46,12 +47,12 @@ pub record Witness : Type 0 where
   pub end : endIn block ≡ 41 ∷ 66 ∷ []
   -- their answers: taken as string 2, clean, kept, upright; OFF-BEAT, which stops nothing; done; CHANNEL
   pub answers : answersTo before (callsIn block) ≡ (0 ∷ 2 ∷ 0 ∷ 0 ∷ 1 ∷ 0 ∷ []) ∷ (8 ∷ []) ∷ (0 ∷ []) ∷ (1 ∷ []) ∷ []
-  -- channel 3 is empty again; channel 7 holds string 2 alone, and counts what was refused; the offer behind the unknown tag was not made
+  -- channel 3 is empty again; channel 7 holds string 2 alone, and counts what was refused, under 8; the offer behind the unknown tag was not made
   pub third-row : rowAt (afterCalls before (callsIn block)) 3 ≡ emptyRow
   pub seventh-row : rowAt (afterCalls before (callsIn block)) 7 .present ≡ 0b10
-  pub seventh-counts : rowAt (afterCalls before (callsIn block)) 7 .tallies ≡ record { offered = 2; clean = 1; repaired = 0; refused = 1 }
+  pub seventh-counts : allCounts (rowAt (afterCalls before (callsIn block)) 7 .tallies) ≡ 2 ∷ 1 ∷ 0 ∷ 1 ∷ 0 ∷ 0 ∷ 0 ∷ 0 ∷ 0 ∷ 0 ∷ 0 ∷ 0 ∷ 1 ∷ 0 ∷ []
 
 pub witness : Witness
-unfolding before one two three soundTests numberOf paddingOf misshapen wordOf flip stringBytes readRelative writeRelative firstSymbol position sumC sumAll syndrome sumsSet highest placed judge ruling mended layout valuesOf firstBad goodWords entryOf greater dayOf isShown threeOf shownBy emptyBook joinedBook joinedShown oneMore isPresent holdsFrame hasRecord emptyRow newFrame stored heldWith counted takenRow frameBy brought freshStation noRow stationAfter stationReset isGood sizeIn callIn fieldsOver fieldsIn callsOf joined endFrom answerIn afterCall afterCalls answersTo
+unfolding before one two three soundTests numberOf paddingOf misshapen wordOf flip stringBytes readRelative writeRelative firstSymbol position sumC sumAll syndrome sumsSet highest placed judge ruling mended layout valuesOf firstBad goodWords entryOf greater dayOf isShown threeOf shownBy emptyBook joinedBook joinedShown oneMore causesAfter isPresent holdsFrame hasRecord emptyRow newFrame stored heldWith counted takenRow frameBy brought freshStation noRow stationAfter stationReset isGood sizeIn callIn fieldsOver fieldsIn callsOf joined endFrom answerIn afterCall afterCalls answersTo
 witness =
     record { calls = refl; end = refl; answers = refl; third-row = refl; seventh-row = refl; seventh-counts = refl }

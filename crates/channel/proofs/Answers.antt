@@ -91,7 +91,7 @@ module _ (place : List ℕ) (m : ℕ) (v : Verdict) (w : News) where
     abbrev Says : Answer → ℕ → Type 0
     Says a k = answerPaper a ≡ saidBy k place (toldAs m v w ++ (polarityNumber p ∷ []))
 
-    pub counts-by : (a : Answer) (k : ℕ) → Says a k → outcomeOf a ≡ pick (eqb k 0) (TAKEN v) REFUSED
+    pub counts-by : (a : Answer) (k : ℕ) → Says a k → outcomeOf a ≡ pick (eqb k 0) (TAKEN v) (REFUSED k)
     counts-by a zero e = ap outcomeOf (answer-same a (Taken m v w p) e)
     counts-by (Taken i x y q) (suc k) e = let z : _≡_ {A = ℕ} 0 (suc k) = ap (λ (l : List ℕ). getD l 0 0) e in absurd (omega arith)
-    counts-by (Refused q) (suc k) e = rw (ne-eqb (suc k) 0 (λ z. omega arith))
+    counts-by (Refused q) (suc k) e = rw (ne-eqb (suc k) 0 (λ z. omega arith)) (ap (λ (l : List ℕ). REFUSED (getD l 0 0)) e)

@@ -1,7 +1,6 @@
--- The frame that a row holds is the one that the calls determine (held-is), and so is each answer (said-is); a refused offer changes nothing but
--- two tallies (refused-only). Of any bytes and any epochs.
+-- The frame that a row holds is the one that the calls determine (held-is), and so is each answer (said-is). Of any bytes and any epochs.
 -- Assumes nothing.
-use mathlib.Core.Path.{_≡_, refl, sym, ap, subst, _∙_}
+use mathlib.Core.Path.{_≡_, refl, sym, ap, _∙_}
 use mathlib.Core.Bool.{Bool, true, false}
 use mathlib.Core.List.{List}
 use Prim.Native.Nat.{ℕ, zero, suc, _^_, _≤_, _<_}
@@ -21,11 +20,10 @@ use Rattle.channel.specs.declared.Row.{Row}
 use Rattle.channel.specs.declared.Offered.{Offered}
 use Rattle.channel.specs.declared.Answer.{Answer}
 use Rattle.channel.specs.declared.Answer.the-variants.{Taken as TAKEN, Refused as REFUSED}
-use Rattle.tallies.specs.Tallies.Outcome.{Refused, Taken}
 use Rattle.channel.specs.Frame.{Frame, withString, startOf, isOfFrame, isHere, frameFor, afterString, placeTests}
 use Rattle.channel.specs.Row.{Held, frameIn, heldOf, frameOf, emptyRow, newFrame, heldFor, stored, heldWith, counted}
-use Rattle.hearing.specs.Hears.{wholeOf, verdictIn}
-use Rattle.channel.specs.Offers.{answerPaper, isTaken, OnlyCounted, takenRow, offerTests, Offers, offeredRow}
+use Rattle.hearing.specs.Hears.{wholeOf}
+use Rattle.channel.specs.Offers.{answerPaper, isTaken, takenRow, offerTests, Offers, offeredRow}
 use Rattle.channel.specs.History.{Call, frameAfter, heldAfter, saidTo, Runs, fresh, offering, resetting}
 use Rattle.channel.proofs.Frames.{stored-frame, empty-frame, held-for}
 use Rattle.hearing.proofs.Hearing.{whole-lt, heard-first}
@@ -119,25 +117,6 @@ pub taken-exactly : (row : Row) (epoch : ℕ) (s : List ℕ) (r : Offered) → O
 taken-exactly row epoch s r o =
     sym (taken-said (r .answer))
     ∙ ap (λ (k : ℕ). eqb k 0) (ap (λ (l : List ℕ). getD l 0 0) (said-by row epoch s r o) ∙ first-said (offerTests (frameOf row) epoch s) _)
-
--- A REFUSED OFFER CHANGES NOTHING BUT TWO TALLIES, in any row
-pub refused-only : (row : Row) (epoch : ℕ) (s : List ℕ) (r : Offered) → Offers row epoch s r → isTaken (r .answer) ≡ false → OnlyCounted row (r .row)
-unfolding counted
-refused-only row epoch s r o n =
-    let e : r .row ≡ counted Refused row =
-    offered-is row epoch s r o
-    ∙ ap (λ (t : Bool). counted (pick t (Taken (verdictIn s)) Refused) (pick t (takenRow row epoch (wholeOf s)) row)) (sym (taken-exactly row epoch s r o) ∙ n)
-    in
-    subst (OnlyCounted row) (sym e) (record {
-      strings = refl;
-      start = refl;
-      present = refl;
-      immediate = refl;
-      offered = refl;
-      clean = refl;
-      repaired = refl;
-      refused = refl;
-    })
 
 -- ---- over a history
 empty-long : length (emptyRow .strings) ≡ 165

@@ -178,11 +178,11 @@ module _ (row : Row) (epoch : ℕ) (s : List ℕ) where
   abbrev theNews : News
   theNews = newsOf (frameOf row) epoch (wholeOf s)
 
-  row-by : (t : Bool) → rowBy row (pick t (heldWith (heldOf row) epoch (wholeOf s)) (heldOf row)) (pick t (isBuilt theNews) false) (pick t (TAKEN (verdictIn s)) REFUSED)
-      ≡ counted (pick t (TAKEN (verdictIn s)) REFUSED) (pick t (takenRow row epoch (wholeOf s)) row)
+  row-by : (k : ℕ) (t : Bool) → rowBy row (pick t (heldWith (heldOf row) epoch (wholeOf s)) (heldOf row)) (pick t (isBuilt theNews) false) (pick t (TAKEN (verdictIn s)) (REFUSED k))
+      ≡ counted (pick t (TAKEN (verdictIn s)) (REFUSED k)) (pick t (takenRow row epoch (wholeOf s)) row)
   unfolding takenRow counted
-  row-by true = refl
-  row-by false = refl
+  row-by k true = refl
+  row-by k false = refl
 
   pub offers-by : (h′ : Held) (said : Placed) (r : Offered) → OffersApart (heldOf row) epoch s said h′ → r .answer ≡ toldWith said (polarityOf (numberOf s))
       → r .row ≡ rowBy row h′ (tellsRecord said) (outcomeOf (r .answer)) → Offers row epoch s r
@@ -197,6 +197,6 @@ module _ (row : Row) (epoch : ℕ) (s : List ℕ) where
         answer = says ∙ ap (λ (b : ℕ). saidBy k place (toldAs m (verdictIn s) theNews ++ (b ∷ []))) (polarity-told (numberOf s));
         left =
             e ∙ ap₂ (λ (x : Bool) (y : Outcome). rowBy row h′ x y) (tells-by place m (verdictIn s) theNews said k (a .answer)) (counts-by place m (verdictIn s) theNews p (r .answer) k says)
-            ∙ ap (λ (x : Held). rowBy row x (pick (eqb k 0) (isBuilt theNews) false) (pick (eqb k 0) (TAKEN (verdictIn s)) REFUSED)) (a .left)
-            ∙ row-by (eqb k 0);
+            ∙ ap (λ (x : Held). rowBy row x (pick (eqb k 0) (isBuilt theNews) false) (pick (eqb k 0) (TAKEN (verdictIn s)) (REFUSED k))) (a .left)
+            ∙ row-by k (eqb k 0);
       }

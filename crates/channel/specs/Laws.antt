@@ -10,10 +10,11 @@ use lib.ListN.{length, getD, take, drop, replicate}
 use Rattle.strings.specs.Number.{numberOf, bitOf, wordOf, stringBytes}
 use Rattle.strings.specs.Calls.{soundTests}
 use Rattle.strings.specs.Hamming.{ruling, isDamaged}
-use Rattle.strings.specs.Numbers.{numbersOf}
+use Rattle.strings.specs.Numbers.{firstOf, numbersOf}
 use Rattle.relative.specs.Relative.{inverse}
 use Rattle.relative.specs.Polarity.{turned}
 use Rattle.immediate.specs.Ranges.{InRange}
+use Rattle.tallies.specs.Counts.{OneCause}
 use Rattle.hearing.specs.Hears.{plainOf, wholeOf}
 use Rattle.channel.specs.declared.Row.{Row}
 use Rattle.channel.specs.declared.Answer.{Answer}
@@ -140,10 +141,16 @@ pub record RowLaws (row : Row) : Type 0 where
   -- one that is taken again is the held string: its check bits follow from the others
   pub same : (epoch : ℕ) (s : List ℕ) (r : Offered) → Offers row epoch s r → IsTaken r → IsHeld row epoch s → SameBits row s 85 1
 
+-- ---- "each refusal that an offer on a valid channel can get": the ten causes are all. Whatever frame is held, no test fits or the first that does has one
+-- of their numbers; so a refused offer counts under exactly one of them
+abbrev pub TenAreAll : Frame → ℕ → List ℕ → Type 0
+TenAreAll f epoch s = (firstOf (offerTests f epoch s) ≡ 0) ⊎ OneCause (firstOf (offerTests f epoch s))
+
 -- ---- all of them: proved as `laws`
 pub record AllLaws : Type 0 where
   pub offers : (row : Row) (epoch : ℕ) (s : List ℕ) (r : Offered) → length (row .strings) ≡ 165 → Offers row epoch s r → OfferLaws row epoch s r
   pub rows : (cs : List Call) (row : Row) → Runs cs row → RowLaws row
+  pub ten : (f : Frame) (epoch : ℕ) (s : List ℕ) → TenAreAll f epoch s
   -- of any row, and any string of eleven bytes with padding 0
   pub either-way : (row : Row) (epoch x : ℕ) (r q : Offered) → x < 2 ^ 85 → Offers row epoch (stringBytes x) r → Offers row epoch (stringBytes (inverse x)) q
       → EitherWay r q

@@ -5,7 +5,8 @@ use mathlib.Core.Bool.{Bool, true, false, not, _&&_}
 use mathlib.Core.List.{List, [], _∷_, _++_}
 use mathlib.Core.Path.{_≡_}
 use lib.Dec.{eqb}
-use Rattle.strings.specs.Pick.{pick}
+use lib.ListN.{getD}
+use Rattle.strings.specs.Pick.{pick, isOneOf}
 use Rattle.strings.specs.declared.Refusal.the-variants.{Conflict}
 use Rattle.strings.specs.declared.Verdict.{Verdict}
 use Rattle.strings.specs.Number.{numberOf}
@@ -24,7 +25,8 @@ use Rattle.channel.specs.declared.Fate.{Fate}
 use Rattle.channel.specs.declared.Fate.the-variants.{Refused as No, Held as Here, New}
 use Rattle.channel.specs.declared.Row.{Row}
 use Rattle.channel.specs.declared.Offered.{Offered}
-use Rattle.tallies.specs.Tallies.{Outcome, oneMore}
+use Rattle.tallies.specs.declared.Tallies.{Tallies}
+use Rattle.tallies.specs.Tallies.{Outcome, isClean, isRepaired, causes, causeOf, oneMore, oneMoreIf}
 use Rattle.tallies.specs.Tallies.Outcome.{Refused as REFUSED, Taken as TAKEN}
 use Rattle.channel.specs.Frame.{Frame, withString, startOf, dataIn, isOfFrame, isHere, placeTests, newsAt, newsOf}
 use Rattle.immediate.specs.Kept.{recordBy}
@@ -130,7 +132,7 @@ takenRow row epoch n =
 
 -- what becomes of it, as far as the tallies go
 abbrev pub outcomeBy : List Test → Verdict → Outcome
-outcomeBy tests v = pick (eqb (firstOf tests) 0) (TAKEN v) REFUSED
+outcomeBy tests v = pick (eqb (firstOf tests) 0) (TAKEN v) (REFUSED (firstOf tests))
 
 abbrev pub offeredRow : Row → ℕ → List ℕ → Row
 offeredRow row epoch s =
@@ -151,14 +153,19 @@ Offers row epoch s r = Leaves (answerOf (offerTests (frameOf row) epoch s) (told
 -- what an answer counts as
 abbrev pub outcomeOf : Answer → Outcome
 outcomeOf (Taken m v w p) = TAKEN v
-outcomeOf (Refused r) = REFUSED
+outcomeOf (Refused r) = REFUSED (getD (refusalPaper r) 0 0)
 
--- ---- "a refused string changes nothing but its channel's tallies of strings offered and refused"
+-- ---- "a refused string changes nothing but its channel's tallies of strings offered and refused", and "its own cause's tally too": that of the number
+-- which it was answered
 abbrev pub isTaken : Answer → Bool
 isTaken (Taken m v w p) = true
 isTaken (Refused r) = false
 
-pub record OnlyCounted (row row′ : Row) : Type 0 where
+-- the number that an answer begins with: 0, or the one that says no
+abbrev pub numberSaid : Answer → ℕ
+numberSaid a = getD (answerPaper a) 0 0
+
+pub record OnlyCounted (number : ℕ) (row row′ : Row) : Type 0 where
   pub strings : row′ .strings ≡ row .strings
   pub start : row′ .start ≡ row .start
   pub present : row′ .present ≡ row .present
@@ -167,6 +174,17 @@ pub record OnlyCounted (row row′ : Row) : Type 0 where
   pub clean : row′ .tallies .clean ≡ row .tallies .clean
   pub repaired : row′ .tallies .repaired ≡ row .tallies .repaired
   pub refused : row′ .tallies .refused ≡ oneMore (row .tallies .refused)
+  pub among : isOneOf causes number ≡ true
+  pub cause : causeOf (row′ .tallies) number ≡ oneMore (causeOf (row .tallies) number)
+  pub others : (k : ℕ) → isOneOf causes k ≡ true → (k ≡ number → ⊥) → causeOf (row′ .tallies) k ≡ causeOf (row .tallies) k
+
+-- ---- a taken one "adds to offered and to clean or repaired by the verdict", and to no cause
+pub record TakenCounted (a : Answer) (t t′ : Tallies) : Type 0 where
+  pub offered : t′ .offered ≡ oneMore (t .offered)
+  pub clean : t′ .clean ≡ oneMoreIf (isClean (outcomeOf a)) (t .clean)
+  pub repaired : t′ .repaired ≡ oneMoreIf (isRepaired (outcomeOf a)) (t .repaired)
+  pub refused : t′ .refused ≡ t .refused
+  pub causes-stay : t′ .causes ≡ t .causes
 
 -- ---- whether an offer stored a string: "one already held changes only tallies"
 abbrev pub isNew : News → Bool

@@ -1,5 +1,5 @@
 -- A channel's row (the paper, "A channel row holds fifteen strings of one frame, its start, which of them are present, the latest immediate record,
--- and four tallies"): the frame that it holds, and what becomes of its bytes. Every value has a meaning.
+-- and four tallies", to which request 9 added ten): the frame that it holds, and what becomes of its bytes. Every value has a meaning.
 -- Assumes nothing.
 use Prim.Native.Nat.{ℕ, _-_, _*_, _/_, _%_, _^_}
 use mathlib.Core.Bool.{Bool, true, false, not, _&&_}

@@ -82,7 +82,7 @@ fn count(t: Tallies, a: Answer) -> Tallies
     ensures { λ r. ⌜ r ≡ afterOffer (outcomeOf a) t ⌝ }
 {
     match a {
-        Answer::Refused(_) => count_refused(t),
+        Answer::Refused(why) => count_refused(t, why),
         Answer::Taken(_, v, _, _) => count_taken(t, v),
     }
 }

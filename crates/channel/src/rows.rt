@@ -1,7 +1,7 @@
 // A row's mask and bytes.
 use crate::Row;
 use immediate::Immediate;
-use tallies::Tallies;
+use tallies::none_counted;
 ghost use mathlib.Core.Path.{_≡_};
 ghost use Prim.Native.Nat.{_≤_};
 ghost use Rattle.channel.specs.Row.{isPresent, holdsFrame, emptyRow};
@@ -15,12 +15,7 @@ pub fn empty_row() -> Row
         start: 0,
         present: 0,
         immediate: Immediate { strings: [0u8; 44] },
-        tallies: Tallies {
-            offered: 0,
-            clean: 0,
-            repaired: 0,
-            refused: 0,
-        },
+        tallies: none_counted(),
     }
 }
 

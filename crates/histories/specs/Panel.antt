@@ -17,7 +17,7 @@ use Rattle.book.specs.Shows.{dayOf, isShown, threeOf, shownBy}
 use Rattle.book.specs.Book.{emptyBook, joined, joinedShown}
 use Rattle.summary.specs.declared.Summary.{Summary}
 use Rattle.summary.specs.Walk.{noneFilled, withLine, walkFrom, walkOf}
-use Rattle.tallies.specs.Tallies.{oneMore}
+use Rattle.tallies.specs.Tallies.{oneMore, causesAfter}
 use Rattle.immediate.specs.Kept.{hasRecord}
 use Rattle.channel.specs.Row.{isPresent, holdsFrame, emptyRow, newFrame, stored, heldWith, counted}
 use Rattle.channel.specs.Offers.{takenRow, storesIt}
@@ -102,7 +102,7 @@ pub record Panel : Type 0 where
   pub reset-keeps : stationOf (Reset 11 ∷ replacedCalls) .summary ≡ said 3 8767 8768
 
 pub panel : Panel
-unfolding whole inBytes sent five six1 seven six2 fiveNext fiveThird six3 soundTests numberOf paddingOf misshapen wordOf flip stringBytes readRelative writeRelative firstSymbol position sumC sumAll syndrome sumsSet highest placed judge ruling mended sumsMade encode layout valuesOf firstBad entryOf greater isGood dayOf isShown threeOf shownBy emptyBook joined joinedShown oneMore isPresent holdsFrame hasRecord emptyRow newFrame stored heldWith counted takenRow frameBy brought changes noneFilled withLine walkFrom walkOf freshStation noRow stationAfter stationReset stationOf beforeAgain again
+unfolding whole inBytes sent five six1 seven six2 fiveNext fiveThird six3 soundTests numberOf paddingOf misshapen wordOf flip stringBytes readRelative writeRelative firstSymbol position sumC sumAll syndrome sumsSet highest placed judge ruling mended sumsMade encode layout valuesOf firstBad entryOf greater isGood dayOf isShown threeOf shownBy emptyBook joined joinedShown oneMore causesAfter isPresent holdsFrame hasRecord emptyRow newFrame stored heldWith counted takenRow frameBy brought changes noneFilled withLine walkFrom walkOf freshStation noRow stationAfter stationReset stationOf beforeAgain again
 panel =
     record {
       fiveThird-sent = refl;

@@ -19,8 +19,9 @@ use Rattle.book.specs.Shows.{dayOf, isShown, threeOf, shownBy}
 use Rattle.book.specs.Book.{inSlot, emptyBook, joined, joinedShown}
 use Rattle.channel.specs.declared.Row.{Row}
 use Rattle.summary.specs.Walk.{noneFilled, withLine, walkFrom, walkOf}
+use Rattle.tallies.specs.declared.Causes.{Causes}
 use Rattle.tallies.specs.declared.Tallies.{Tallies}
-use Rattle.tallies.specs.Tallies.{oneMore}
+use Rattle.tallies.specs.Tallies.{oneMore, causesAfter, noneCounted}
 use Rattle.immediate.specs.Kept.{hasRecord}
 use Rattle.channel.specs.Row.{isPresent, holdsFrame, emptyRow, newFrame, stored, heldWith, counted}
 use Rattle.channel.specs.Offers.{takenRow}
@@ -113,6 +114,13 @@ plainSixAbove = 0x30 ∷ 0x08 ∷ 0 ∷ 0 ∷ 0 ∷ 0 ∷ 0 ∷ 0 ∷ 0 ∷ 0x4A
 abbrev pub plainSeven : List ℕ
 plainSeven = 0x38 ∷ 0 ∷ 0 ∷ 0 ∷ 0 ∷ 0 ∷ 0 ∷ 0 ∷ 0 ∷ 0x22 ∷ 0xA8 ∷ []
 
+abbrev pub noneRefused : Causes
+noneRefused = noneCounted .causes
+
+-- one of two wrong bits, 32
+abbrev pub oneEvenRefused : Causes
+oneEvenRefused = record { shape = 0; unplaced = 0; even = 1; outside = 0; idle = 0; number = 0; early = 0; stale = 0; offbeat = 0; conflict = 0 }
+
 abbrev pub heldRow : List ℕ → Row
 heldRow sixth =
     record {
@@ -120,7 +128,7 @@ heldRow sixth =
       start = 100;
       present = 0b1110000;
       immediate = record { strings = replicate 44 0 };
-      tallies = record { offered = 3; clean = 3; repaired = 0; refused = 0 };
+      tallies = record { offered = 3; clean = 3; repaired = 0; refused = 0; causes = noneRefused };
     }
 
 unfoldable pub tiedRows : List Row
@@ -251,13 +259,13 @@ pub record Witness : Type 0 where
   -- "Each string newly stored brings all entries that its frame then shows to the book"
   pub six-last-1 : slotOf sixLast 1 ≡ lesser
   pub six-last-5 : slotOf sixLast 5 ≡ record { day = 8766; even = 92233720368547758338; odd = 55340232221128654854 }
-  -- ---- "a refused string changes nothing but its channel's tallies of strings offered and refused"
-  pub tallies-before : rowAt entry 3 .tallies ≡ record { offered = 3; clean = 3; repaired = 0; refused = 0 }
+  -- ---- "a refused string changes nothing but its channel's tallies of strings offered and refused", and its own cause's
+  pub tallies-before : rowAt entry 3 .tallies ≡ record { offered = 3; clean = 3; repaired = 0; refused = 0; causes = noneRefused }
   pub refused-said : answerOf (stationTests entry 3 107 damaged) (toldIn entry 3 107 damaged) ≡ 32 ∷ []
-  pub refused-leaves : stationOf (Offer 3 107 damaged ∷ entryCalls) ≡ talliesMoved entry 3 (record { offered = 4; clean = 3; repaired = 0; refused = 1 })
+  pub refused-leaves : stationOf (Offer 3 107 damaged ∷ entryCalls) ≡ talliesMoved entry 3 (record { offered = 4; clean = 3; repaired = 0; refused = 1; causes = oneEvenRefused })
   -- "one already held changes only tallies"
   pub again-said : answerOf (stationTests entry 3 106 seven) (toldIn entry 3 106 seven) ≡ 0 ∷ 7 ∷ 0 ∷ 0 ∷ 0 ∷ 0 ∷ []
-  pub again-leaves : stationOf (Offer 3 106 seven ∷ entryCalls) ≡ talliesMoved entry 3 (record { offered = 4; clean = 4; repaired = 0; refused = 0 })
+  pub again-leaves : stationOf (Offer 3 106 seven ∷ entryCalls) ≡ talliesMoved entry 3 (record { offered = 4; clean = 4; repaired = 0; refused = 0; causes = noneRefused })
   -- "CHANNEL changes nothing at all", and is tested first: ten bytes. Channel 23 is the last
   pub channel-said : answerOf (stationTests entry 24 107 ten) (toldIn entry 24 107 ten) ≡ 1 ∷ []
   pub channel-leaves : stationOf (Offer 24 107 one ∷ entryCalls) ≡ entry
@@ -294,7 +302,7 @@ pub record Witness : Type 0 where
   pub record-channel : answerOf (recordTests goodEntry 24) [] ≡ 1 ∷ []
 
 pub witness : Witness
-unfolding whole inBytes sent sentDamaged one two three four four′ five six1 seven fourteen fifteen six2 sixAbove sixGood fiveNext twoIll threeRaised four00 four11 damaged soundTests numberOf paddingOf misshapen wordOf flip stringBytes readRelative writeRelative firstSymbol position sumC sumAll syndrome sumsSet highest placed judge ruling mended sumsMade encode layout valuesOf firstBad entryOf greater isGood dayOf isShown threeOf shownBy emptyBook joined joinedShown oneMore isPresent holdsFrame hasRecord emptyRow newFrame stored heldWith counted takenRow frameBy brought changes noneFilled withLine walkFrom walkOf heldAfter freshStation noRow stationAfter stationReset judged healthBy callsOn saidAfter stationOf half entry twoFrames twoChannels greaterLast greaterFirst tiedRows tiedBook nextDay sixLast recordAlone goodEntry illEntry illRecord raised01 raised10 raised11 raised00 illRaised00 laterRaised laterRecord
+unfolding whole inBytes sent sentDamaged one two three four four′ five six1 seven fourteen fifteen six2 sixAbove sixGood fiveNext twoIll threeRaised four00 four11 damaged soundTests numberOf paddingOf misshapen wordOf flip stringBytes readRelative writeRelative firstSymbol position sumC sumAll syndrome sumsSet highest placed judge ruling mended sumsMade encode layout valuesOf firstBad entryOf greater isGood dayOf isShown threeOf shownBy emptyBook joined joinedShown oneMore causesAfter isPresent holdsFrame hasRecord emptyRow newFrame stored heldWith counted takenRow frameBy brought changes noneFilled withLine walkFrom walkOf heldAfter freshStation noRow stationAfter stationReset judged healthBy callsOn saidAfter stationOf half entry twoFrames twoChannels greaterLast greaterFirst tiedRows tiedBook nextDay sixLast recordAlone goodEntry illEntry illRecord raised01 raised10 raised11 raised00 illRaised00 laterRaised laterRecord
 witness =
     record {
       six2-sent = refl;

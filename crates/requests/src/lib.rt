@@ -150,13 +150,18 @@ fn turn(space: &mut [u8; 65536], st: Station) -> Turned {
     finish(head[0], pair(head[1], head[2]), space, st)
 }
 
-// Answers every request, all by one station that is fresh at the start. It returns nothing and only
-// reads and writes, of which no contract can speak: it promises nothing but to end. Nothing says that
-// the input ends, so the turns are counted down from a number that no run uses up.
+// Answers every request, all by one station that is fresh at the start.
 pub fn answer_all() {
+    answer_from(station::fresh());
+}
+
+// Answers every request, all by one station, which begins as it is handed over. It returns nothing and
+// only reads and writes, of which no contract can speak: it promises nothing but to end. Nothing says
+// that the input ends, so the turns are counted down from a number that no run uses up.
+pub fn answer_from(st: Station) {
     let mut space = io::large_buffer();
     let mut turned = Turned {
-        station: station::fresh(),
+        station: st,
         more: true,
     };
     let mut turns = u64::MAX;

@@ -22,6 +22,7 @@ use station::RecordFound;
 use station::TalliesFound;
 use strings::Written;
 use summary::Summary;
+use tallies::Causes;
 use tallies::Tallies;
 ghost use Prim.Native.Nat.{_≤_};
 
@@ -127,7 +128,7 @@ pub(crate) fn say_entry_words(text: &mut Text, f: EntryFound) -> usize
     }
 }
 
-// `ok OFFERED CLEAN REPAIRED REFUSED`.
+// `ok OFFERED CLEAN REPAIRED REFUSED N2 N31 N32 N33 N4 N5 N6 N7 N8 N9`.
 pub(crate) fn say_tallies(text: &mut Text, f: TalliesFound) -> usize
     ensures { λ n. ⌜ n ≤ 512 ⌝ }
 {
@@ -144,7 +145,26 @@ fn put_tallies(text: &mut Text, t: Tallies) -> usize
     let offered = put_next(text, ok, t.offered as u64);
     let clean = put_next(text, offered, t.clean as u64);
     let repaired = put_next(text, clean, t.repaired as u64);
-    put_next(text, repaired, t.refused as u64)
+    let refused = put_next(text, repaired, t.refused as u64);
+    let causes = t.causes;
+    put_causes(text, refused, causes)
+}
+
+// The refused by cause, in the order of the tests.
+fn put_causes(text: &mut Text, at: usize, c: Causes) -> usize
+    requires { ⌜ at ≤ 512 ⌝ }
+    ensures { λ n. ⌜ n ≤ 512 ⌝ }
+{
+    let shape = put_next(text, at, c.shape as u64);
+    let unplaced = put_next(text, shape, c.unplaced as u64);
+    let even = put_next(text, unplaced, c.even as u64);
+    let outside = put_next(text, even, c.outside as u64);
+    let idle = put_next(text, outside, c.idle as u64);
+    let number = put_next(text, idle, c.number as u64);
+    let early = put_next(text, number, c.early as u64);
+    let stale = put_next(text, early, c.stale as u64);
+    let offbeat = put_next(text, stale, c.offbeat as u64);
+    put_next(text, offbeat, c.conflict as u64)
 }
 
 // `ok COUNT OLDEST NEWEST`.

@@ -8,7 +8,7 @@ use Prim.Native.Nat.{ℕ, _≤_}
 use native.Mathlib.Omega.{arith}
 use borrow.Author.Tests.{ne-eqb, eqb-true, eqb-false, leb-true}
 use lib.Dec.{eqb, leb}
-use lib.ListN.{length, getD}
+use lib.ListN.{length, getD, replicate}
 use lib.Seq.{getD-set-same, getD-set-other}
 use Rattle.strings.specs.Pick.{pick}
 use Rattle.strings.specs.Number.{wordOf}
@@ -21,34 +21,36 @@ use Rattle.book.specs.Entry.{Three, meaning}
 use Rattle.book.specs.Book.{slots, inSlot}
 use Rattle.strings.proofs.Below.{both}
 use Rattle.strings.proofs.DamagedExactly.{damaged-exactly}
-use Rattle.tallies.specs.declared.Tallies.{Tallies}
 use Rattle.channel.specs.Frame.{isHere}
 use Rattle.immediate.specs.declared.Immediate.{Immediate}
 use Rattle.immediate.specs.Kept.{hasRecord, recordIn, keptFour}
 use Rattle.immediate.proofs.Good.{four-good}
-use Rattle.channel.specs.Row.{frameOf}
+use Rattle.channel.specs.declared.Row.{Row}
+use Rattle.channel.specs.Row.{frameOf, emptyRow}
 use Rattle.hearing.specs.Hears.{wholeOf}
-use Rattle.channel.specs.Offers.{isTaken, OnlyCounted, offeredRow, storesIt}
+use Rattle.channel.specs.Offers.{numberSaid, isTaken, OnlyCounted, TakenCounted, offeredRow, storesIt}
 use Rattle.shows.specs.Shows.{showsOf, brought, changes}
 use Rattle.channel.specs.History.{recordAfter}
-use Rattle.channel.proofs.HeldFrame.{held-is, refused-only, taken-exactly}
-use Rattle.channel.proofs.TrueCounts.{tallies-are}
+use Rattle.channel.proofs.HeldFrame.{held-is, taken-exactly}
+use Rattle.channel.proofs.Counting.{refused-only, taken-counted}
+use Rattle.channel.proofs.TrueCounts.{tallies-are, tallies-add-up}
 use Rattle.channel.proofs.LatestRecord.{record-is}
 use Rattle.channel.proofs.Relock.{every-phase}
 use Rattle.station.specs.declared.Station.{Station}
 use Rattle.station.specs.declared.Stepped.{Stepped}
+use Rattle.station.specs.declared.Emptied.{Emptied}
 use Rattle.station.specs.declared.Health.{Health}
-use Rattle.station.specs.Station.{freshStation, noRow, rowAt, isNoChannel, bookAfter, corrected, stationAfter, stationReset, OffersTo}
+use Rattle.station.specs.Station.{freshStation, noRow, rowAt, isNoChannel, bookAfter, corrected, stationAfter, stationReset, OffersTo, Resets}
 use Rattle.station.specs.History.{Call, callsOn, Runs, fresh, offering, resetting, stationOf}
 use Rattle.station.specs.declared.Health.the-variants.{Unknown, Usable, NotUsable}
-use Rattle.station.specs.Queries.{keptAt, isSlot, isEmpty, topOfB, satelliteOf, lOf, modelOf, lCounted, statusOf, judged, isKnown, statusIn, healthBy}
+use Rattle.station.specs.Queries.{keptAt, allCounts, isSlot, isEmpty, topOfB, satelliteOf, lOf, modelOf, lCounted, statusOf, judged, isKnown, statusIn, healthBy}
 use Rattle.station.specs.Said.{callsOf}
 use Rattle.station.specs.Demand1.{WellMade, RefusalLeaves, ChannelLeaves}
 use Rattle.station.specs.Demand2.{Counted}
 use Rattle.station.specs.Demand3.{Answered, SameShown, SameBooks, BookRule}
 use Rattle.station.specs.Health.{KnownIn, UsableIn, HealthIn, DifferInBit65, ReservedBit, healthBefore, UsedUnfit, RulesDiffer}
 use Rattle.station.specs.Demands.{AllDemands}
-use Rattle.station.proofs.ChannelRuns.{in-step, served-below, after-none, after-some, reset-none, row-offers}
+use Rattle.station.proofs.ChannelRuns.{in-step, served-below, after-none, after-some, reset-none, reset-some, row-offers}
 use Rattle.station.proofs.EveryHistory.{every-history}
 use Rattle.station.proofs.EveryCall.{station-answers, strings-answer, station-numbers, string-numbers, no-output-byte}
 use Rattle.station.proofs.Gathered.{checking, again, encoding, relative, by-name, ranges, round-trips}
@@ -68,17 +70,17 @@ channel-leaves st c e =
     record { offers = λ epoch s r o. o .station ∙ after-none st c epoch s e; resets = λ r o. o .station ∙ reset-none st c e }
 
 pub refusal-leaves : (st : Station) (c epoch : ℕ) (s : List ℕ) (r : Stepped) → WellMade st → isNoChannel c ≡ false
-    → OffersTo st c epoch s r → isTaken (r .answer) ≡ false → RefusalLeaves st c (r .station)
+    → OffersTo st c epoch s r → isTaken (r .answer) ≡ false → RefusalLeaves st c (numberSaid (r .answer)) (r .station)
 refusal-leaves st c epoch s r made e o n =
     let row = rowAt st c in
     let next = offeredRow row epoch s in
     let p = row-offers st c epoch s r e o in
     let q : storesIt (frameOf row) epoch s ≡ false = ap (λ (t : Bool). t && not (isHere (frameOf row) epoch (wholeOf s))) (sym (taken-exactly row epoch s (record { row = next; answer = r .answer }) p) ∙ n) in
-    subst (RefusalLeaves st c) (sym (o .station ∙ after-some st c epoch s e)) (record {
+    subst (RefusalLeaves st c (numberSaid (r .answer))) (sym (o .station ∙ after-some st c epoch s e)) (record {
       book = ap (λ (t : Bool). pick t (brought (st .book) (showsOf (frameOf next))) (st .book)) q;
       summary = ap (λ (t : Bool). corrected (t && changes (st .book) (showsOf (frameOf next))) (bookAfter (st .book) row epoch s) (st .summary)) q;
       others = λ k d. getD-set-other (st .rows) c k next noRow d;
-      own = subst (OnlyCounted row) (sym (getD-set-same (st .rows) c next noRow (omega (arith, served-below c e, made .rows))))
+      own = subst (OnlyCounted (numberSaid (r .answer)) row) (sym (getD-set-same (st .rows) c next noRow (omega (arith, served-below c e, made .rows))))
           (refused-only row epoch s (record { row = next; answer = r .answer }) p n);
     })
 
@@ -94,11 +96,29 @@ counted cs st run c e =
     record {
       frame = held-is (callsOn c cs) (rowAt st c) i;
       kept = record-is (callsOn c cs) (rowAt st c) i;
-      offered = ap (λ (x : Tallies). x .offered) t;
-      clean = ap (λ (x : Tallies). x .clean) t;
-      repaired = ap (λ (x : Tallies). x .repaired) t;
-      refused = ap (λ (x : Tallies). x .refused) t;
+      offered = t .offered;
+      clean = t .clean;
+      repaired = t .repaired;
+      refused = t .refused;
+      cause = t .cause;
+      adds-up = tallies-add-up (callsOn c cs) (rowAt st c) i;
     }
+
+-- of every station
+pub taken-counts : (st : Station) (c epoch : ℕ) (s : List ℕ) (r : Stepped) → WellMade st → isNoChannel c ≡ false → OffersTo st c epoch s r
+    → isTaken (r .answer) ≡ true → TakenCounted (r .answer) (rowAt st c .tallies) (rowAt (r .station) c .tallies)
+taken-counts st c epoch s r made e o n =
+    let row = rowAt st c in
+    let next = offeredRow row epoch s in
+    subst (λ (x : Row). TakenCounted (r .answer) (row .tallies) (x .tallies))
+    (sym (ap (λ (x : Station). rowAt x c) (o .station ∙ after-some st c epoch s e) ∙ getD-set-same (st .rows) c next noRow (omega (arith, served-below c e, made .rows))))
+    (taken-counted row epoch s (record { row = next; answer = r .answer }) (row-offers st c epoch s r e o) n)
+
+pub reset-counts : (st : Station) (c : ℕ) (r : Emptied) → WellMade st → isNoChannel c ≡ false → Resets st c r → allCounts (rowAt (r .station) c .tallies) ≡ replicate 14 0
+unfolding emptyRow
+reset-counts st c r made e o =
+    ap (λ (x : Station). allCounts (rowAt x c .tallies)) (o .station ∙ reset-some st c e)
+    ∙ ap (λ (x : Row). allCounts (x .tallies)) (getD-set-same (st .rows) c emptyRow noRow (omega (arith, served-below c e, made .rows)))
 
 -- ---- DEMAND 3
 pub two-cards : (cs ds : List Call) → SameShown cs ds → SameBooks cs ds
@@ -351,6 +371,8 @@ demands =
       round-trips = round-trips;
       tallies = λ all st run c e. tallied all st run c e (counted (callsOf all) st (runs-of all st run) c e);
       counts = counted;
+      taken-counts = taken-counts;
+      reset-counts = reset-counts;
       every-run = every-run;
       said-run = runs-of;
       every = every-history;

@@ -55,7 +55,7 @@ use Rattle.station.specs.declared.TalliesFound.the-variants.{Found as Fo
 use Rattle.station.specs.declared.HealthFound.{HealthFound}
 use Rattle.station.specs.declared.HealthFound.the-variants.{Found as FoundHealth, Refused as NoHealth}
 use Rattle.station.specs.Station.{rowAt, isNoChannel, stationAfter, OffersTo, stationReset, Resets}
-use Rattle.station.specs.Queries.{keptAt, recordTests, FindsRecord, entryTests, threeNumbers, FindsEntry, fourCounts, FindsTallies, FindsSummary, healthNumber, healthBy, FindsHealth}
+use Rattle.station.specs.Queries.{keptAt, recordTests, FindsRecord, entryTests, threeNumbers, FindsEntry, allCounts, FindsTallies, FindsSummary, healthNumber, healthBy, FindsHealth}
 use Rattle.station.specs.Demand1.{OneAnswer, StationAnswers, StringsAnswer, StationNumbers, StringNumbers, NoOutputByte}
 use Rattle.station.proofs.Found.{one-record, no-record, one-entry, no-entry}
 use Rattle.station.proofs.OnceOnly.{offers-to-once, resets-once, offers-to-exactly, resets-exactly}
@@ -106,8 +106,8 @@ module _ (st : Station) where
       let ts = test 1 (isNoChannel c) ∷ [] in
       let t = rowAt st c .tallies in
       ⊎-elim
-      (λ (z : firstOf ts ≡ 0). one TalliesFound (FindsTallies st c) (tallies-once st c) (FoundTallies t) (taken-says ts (fourCounts t) z))
-      (λ (f : Fitting ts). one TalliesFound (FindsTallies st c) (tallies-once st c) (NoTallies (f .refusal)) (f .says (fourCounts t)))
+      (λ (z : firstOf ts ≡ 0). one TalliesFound (FindsTallies st c) (tallies-once st c) (FoundTallies t) (taken-says ts (allCounts t) z))
+      (λ (f : Fitting ts). one TalliesFound (FindsTallies st c) (tallies-once st c) (NoTallies (f .refusal)) (f .says (allCounts t)))
       (settles ts tt)
 
   -- the summary: its promise is an equation

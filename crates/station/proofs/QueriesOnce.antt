@@ -22,7 +22,7 @@ use Rattle.station.specs.declared.TalliesFound.the-variants.{Found as Fo
 use Rattle.station.specs.declared.HealthFound.{HealthFound}
 use Rattle.station.specs.declared.HealthFound.the-variants.{Found as FoundHealth, Refused as NoHealth}
 use Rattle.station.specs.Station.{isNoChannel}
-use Rattle.station.specs.Queries.{recordTests, recordPaper, FindsRecord, entryTests, entryPaper, FindsEntry, fourCounts, talliesPaper, FindsTallies, healthNumber, healthPaper, FindsHealth}
+use Rattle.station.specs.Queries.{recordTests, recordPaper, FindsRecord, entryTests, entryPaper, FindsEntry, allCounts, talliesPaper, FindsTallies, healthNumber, healthPaper, FindsHealth}
 
 -- ---- the immediate record
 -- NO SECOND ANSWER FITS
@@ -51,13 +51,32 @@ entries-exactly st k r a = exactly tt (record { answer = a .answer; output = ref
 -- ---- the tallies
 -- tallies, told by the numbers after the 0
 abbrev talliesBy : List ℕ → Tallies
-talliesBy l = record { offered = getD l 1 0; clean = getD l 2 0; repaired = getD l 3 0; refused = getD l 4 0 }
+talliesBy l =
+    record {
+      offered = getD l 1 0;
+      clean = getD l 2 0;
+      repaired = getD l 3 0;
+      refused = getD l 4 0;
+      causes =
+          record {
+            shape = getD l 5 0;
+            unplaced = getD l 6 0;
+            even = getD l 7 0;
+            outside = getD l 8 0;
+            idle = getD l 9 0;
+            number = getD l 10 0;
+            early = getD l 11 0;
+            stale = getD l 12 0;
+            offbeat = getD l 13 0;
+            conflict = getD l 14 0;
+          };
+    }
 
 -- an answer is known by its numbers
 pub tallies-same : (r q : TalliesFound) → talliesPaper r ≡ talliesPaper q → r ≡ q
 tallies-same (FoundTallies t) (FoundTallies u) e = ap (λ (l : List ℕ). FoundTallies (talliesBy l)) e
-tallies-same (FoundTallies t) (NoTallies q) e = absurd (not-taken q (fourCounts t) (sym e))
-tallies-same (NoTallies p) (FoundTallies u) e = absurd (not-taken p (fourCounts u) e)
+tallies-same (FoundTallies t) (NoTallies q) e = absurd (not-taken q (allCounts t) (sym e))
+tallies-same (NoTallies p) (FoundTallies u) e = absurd (not-taken p (allCounts u) e)
 tallies-same (NoTallies p) (NoTallies q) e = ap NoTallies (refusal-same p q e)
 
 -- NO SECOND ANSWER FITS

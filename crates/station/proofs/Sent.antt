@@ -3,7 +3,7 @@
 -- Assumes nothing.
 use mathlib.Core.Path.{_≡_, refl, sym, ap, ap₂, _∙_}
 use mathlib.Core.Bool.{Bool, true, false, _&&_, _||_}
-use mathlib.Core.List.{List, [], _∷_, _++_}
+use mathlib.Core.List.{List, [], _∷_, _++_, map}
 use mathlib.Core.Logic.{⊎-elim, inl, inr}
 use Prim.Native.Nat.{ℕ, _+_, _-_, _%_, _^_, _≤_, _<_}
 use native.Mathlib.Omega.{arith}
@@ -33,7 +33,7 @@ use Rattle.hearing.specs.Hears.{plainOf, wholeOf, hearTests}
 use Rattle.hearing.proofs.Hearing.{heard-then}
 use Rattle.book.specs.declared.Book.{Book}
 use Rattle.book.specs.declared.Shown.{Shown}
-use Rattle.tallies.specs.Tallies.{afterOffer}
+use Rattle.tallies.specs.Tallies.{isClean, isRepaired, causes, causeOf, oneMore, oneMoreIf, causesAfter}
 use Rattle.tallies.specs.Tallies.Outcome.{Taken}
 use Rattle.channel.specs.declared.Row.{Row}
 use Rattle.channel.specs.Frame.{placeTests}
@@ -44,7 +44,7 @@ use Rattle.station.specs.declared.Station.{Station}
 use Rattle.station.specs.declared.Stepped.{Stepped}
 use Rattle.station.specs.declared.TalliesFound.{TalliesFound}
 use Rattle.station.specs.Station.{channels, lastChannel, noRow, rowAt, heldAt, isNoChannel, toldIn, bookAfter, entryChanges, corrected, summaryAfter, stationAfter, OffersTo}
-use Rattle.station.specs.Queries.{fourCounts, talliesPaper, FindsTallies}
+use Rattle.station.specs.Queries.{allCounts, talliesPaper, FindsTallies}
 use Rattle.station.proofs.AfterOffer.{same-station}
 use Rattle.station.specs.Sent.{SentString, mOf, SentAs, SentWith, IsBit, Awaits, talliesAt, SameButVerdict, HeardAsSent}
 
@@ -199,15 +199,16 @@ module _ (st : Station) (c epoch n : ℕ) (a : Awaits st c epoch n) (idle : bitO
 
   -- and the tallies that are then told
   told : (r : Stepped) (t : TalliesFound) → OffersTo st c epoch s r → length (st .rows) ≡ channels → FindsTallies (r .station) c t
-      → talliesPaper t ≡ 0 ∷ fourCounts (afterOffer (Taken v) (talliesAt st c))
-  unfolding FindsTallies counted takenRow
-  told r t o long f = f ∙ rw (is-served c (a .served)) (ap (λ (z : Row). 0 ∷ fourCounts (z .tallies)) (its-row r o long))
+      → talliesPaper t ≡ 0 ∷ oneMore (talliesAt st c .offered) ∷ oneMoreIf (isClean (Taken v)) (talliesAt st c .clean)
+      ∷ oneMoreIf (isRepaired (Taken v)) (talliesAt st c .repaired) ∷ talliesAt st c .refused ∷ map (causeOf (talliesAt st c)) causes
+  unfolding FindsTallies counted takenRow causesAfter
+  told r t o long f = f ∙ rw (is-served c (a .served)) (ap (λ (z : Row). 0 ∷ allCounts (z .tallies)) (its-row r o long))
 
 -- ---- the string as it is and with bit i wrong leave one station, but for the verdict's tally
 same-left : (st : Station) (c epoch n : ℕ) → SentString n → (i : ℕ) (s t : List ℕ) (q r : Stepped) → length (st .rows) ≡ channels → Awaits st c epoch n
     → IsBit i → (i ≡ 8 → ⊥) → SentAs n s → OffersTo st c epoch s q → SentAs (flip n i) t → OffersTo st c epoch t r
     → SameButVerdict st c (q .station) (r .station)
-unfolding counted takenRow
+unfolding counted takenRow causesAfter
 same-left st c epoch n g i s t q r long a b ne e o f p =
     let w = left-clean n g s e in
     let v = left-repaired n g i b t ne f in
@@ -225,6 +226,7 @@ same-left st c epoch n g i s t q r long a b ne e o f p =
       immediate = ap (λ (z : Row). z .immediate) y ∙ sym (ap (λ (z : Row). z .immediate) x);
       offered = ap (λ (z : Row). z .tallies .offered) y ∙ sym (ap (λ (z : Row). z .tallies .offered) x);
       refused = ap (λ (z : Row). z .tallies .refused) y ∙ sym (ap (λ (z : Row). z .tallies .refused) x);
+      causes-stay = ap (λ (z : Row). z .tallies .causes) y ∙ sym (ap (λ (z : Row). z .tallies .causes) x);
       clean-counted = ap (λ (z : Row). z .tallies .clean) x;
       clean-not = ap (λ (z : Row). z .tallies .repaired) x;
       repaired-counted = ap (λ (z : Row). z .tallies .repaired) y;

@@ -8,23 +8,24 @@ use native.Mathlib.Omega.{arith}
 use borrow.Author.Tests.{eqb-true}
 use lib.Dec.{eqb}
 use lib.ListN.{length, getD}
-use Rattle.strings.specs.Pick.{pick}
+use Rattle.strings.specs.Pick.{pick, isOneOf}
 use Rattle.strings.specs.declared.Verdict.the-variants.{Clean, Repaired}
-use Rattle.tallies.specs.Tallies.{Outcome, isOffer, isClean, isRepaired, isRefused, plusIf, howMany}
+use Rattle.tallies.specs.Tallies.{Outcome, isOffer, isClean, isRepaired, isRefused, causes, isRefusedBy, plusIf, howMany}
 use Rattle.tallies.specs.Tallies.Outcome.{Refused, Taken}
+use Rattle.tallies.proofs.Whose.{each}
 use Rattle.channel.specs.History.{saidSince, countsAs}
 use Rattle.station.specs.declared.Station.{Station}
 use Rattle.station.specs.Station.{freshStation, isNoChannel}
 use Rattle.station.specs.History.{Call, Offer, Reset, itself, callsOn, saidOn, saidAfter}
 use Rattle.station.specs.Said.{Said, RunsFrom, callsOf}
-use Rattle.station.specs.Demand2.{sinceReset, answersSince, saysNo, saysClean, saysRepaired, count, Tallied, Counted}
+use Rattle.station.specs.Demand2.{sinceReset, answersSince, saysNo, saysNumber, saysClean, saysRepaired, count, Tallied, Counted}
 use Rattle.station.proofs.Exchange.{AllTold, all-told}
 
 -- ---- what an answer says, and what it counts as
 refused-says : (a : List ℕ) → isRefused (countsAs a) ≡ saysNo a
 refused-says a = by (eqb (getD a 0 0) 0) (eqb (getD a 2 0) 0)
   where
-    by : (t u : Bool) → isRefused (pick t (Taken (pick u Clean (Repaired (getD a 3 0)))) Refused) ≡ not t
+    by : (t u : Bool) → isRefused (pick t (Taken (pick u Clean (Repaired (getD a 3 0)))) (Refused (getD a 0 0))) ≡ not t
     by true true = refl
     by true false = refl
     by false u = refl
@@ -32,7 +33,7 @@ refused-says a = by (eqb (getD a 0 0) 0) (eqb (getD a 2 0) 0)
 clean-says : (a : List ℕ) → isClean (countsAs a) ≡ saysClean a
 clean-says a = by (eqb (getD a 0 0) 0) (eqb (getD a 2 0) 0)
   where
-    by : (t u : Bool) → isClean (pick t (Taken (pick u Clean (Repaired (getD a 3 0)))) Refused) ≡ (not (not t) && u)
+    by : (t u : Bool) → isClean (pick t (Taken (pick u Clean (Repaired (getD a 3 0)))) (Refused (getD a 0 0))) ≡ (not (not t) && u)
     by true true = refl
     by true false = refl
     by false u = refl
@@ -40,10 +41,22 @@ clean-says a = by (eqb (getD a 0 0) 0) (eqb (getD a 2 0) 0)
 repaired-says : (a : List ℕ) → isRepaired (countsAs a) ≡ saysRepaired a
 repaired-says a = by (eqb (getD a 0 0) 0) (eqb (getD a 2 0) 0)
   where
-    by : (t u : Bool) → isRepaired (pick t (Taken (pick u Clean (Repaired (getD a 3 0)))) Refused) ≡ (not (not t) && not u)
+    by : (t u : Bool) → isRepaired (pick t (Taken (pick u Clean (Repaired (getD a 3 0)))) (Refused (getD a 0 0))) ≡ (not (not t) && not u)
     by true true = refl
     by true false = refl
     by false u = refl
+
+-- no cause has the number 0, with which the answer to a taken offer begins
+not-zero : (k : ℕ) → isOneOf causes k ≡ true → eqb 0 k ≡ false
+not-zero = each (λ (k : ℕ). eqb 0 k ≡ false) causes (refl, (refl, (refl, (refl, (refl, (refl, (refl, (refl, (refl, (refl, tt))))))))))
+
+cause-says : (k : ℕ) → isOneOf causes k ≡ true → (a : List ℕ) → isRefusedBy k (countsAs a) ≡ saysNumber k a
+cause-says k m a = by (eqb (getD a 0 0) 0) refl
+  where
+    by : (t : Bool) → eqb (getD a 0 0) 0 ≡ t
+        → isRefusedBy k (pick t (Taken (pick (eqb (getD a 2 0) 0) Clean (Repaired (getD a 3 0)))) (Refused (getD a 0 0))) ≡ eqb (getD a 0 0) k
+    by true q = sym (not-zero k m) ∙ ap (λ (n : ℕ). eqb n k) (sym (eqb-true (getD a 0 0) 0 q))
+    by false q = refl
 
 -- ---- counting
 many-is : (p : Outcome → Bool) (says : List ℕ → Bool) → ((a : List ℕ) → p (countsAs a) ≡ says a) → (l : List (List ℕ)) → howMany p (map countsAs l) ≡ count says l
@@ -92,8 +105,9 @@ tallied all st run c e n =
     let l = answersSince c all in
     let q : map countsAs (saidSince (callsOn c (callsOf all))) ≡ map countsAs l = ap (map countsAs) (sym (since-is all (all-told all st run) c e)) in
     record {
-      offered = n .offered ∙ ap (min 65535) (ap (howMany isOffer) q ∙ all-are l);
-      clean = n .clean ∙ ap (min 65535) (ap (howMany isClean) q ∙ many-is isClean saysClean clean-says l);
-      repaired = n .repaired ∙ ap (min 65535) (ap (howMany isRepaired) q ∙ many-is isRepaired saysRepaired repaired-says l);
-      refused = n .refused ∙ ap (min 65535) (ap (howMany isRefused) q ∙ many-is isRefused saysNo refused-says l);
+      offered = n .offered ∙ ap (min 4294967295) (ap (howMany isOffer) q ∙ all-are l);
+      clean = n .clean ∙ ap (min 4294967295) (ap (howMany isClean) q ∙ many-is isClean saysClean clean-says l);
+      repaired = n .repaired ∙ ap (min 4294967295) (ap (howMany isRepaired) q ∙ many-is isRepaired saysRepaired repaired-says l);
+      refused = n .refused ∙ ap (min 4294967295) (ap (howMany isRefused) q ∙ many-is isRefused saysNo refused-says l);
+      cause = λ k m. n .cause k m ∙ ap (min 4294967295) (ap (howMany (isRefusedBy k)) q ∙ many-is (isRefusedBy k) (saysNumber k) (cause-says k m) l);
     }

@@ -73,18 +73,19 @@ pub record StringNumbers : Type 0 where
   pub read : (s : List ℕ) (k : Kind) (r : Reading) → Reads s k r → Exactly (readTests s k) (readingPaper r)
   pub write : (m : ℕ) (w : Record) (out : List ℕ) (r : Written) (out′ : List ℕ) → Writes m w out r out′ → Exactly (writeTests m w out) (writtenPaper r)
 
--- ---- "a refused string changes nothing but its channel's tallies of strings offered and refused"
+-- ---- "a refused string changes nothing but its channel's tallies of strings offered and refused", and request 9 "lets a refused string move its own cause's
+-- tally too": that of the number which it was answered. Each is one more, or stays at the limit; clean, repaired and the nine other causes stay
 -- what the types say of a station: a row of fifteen strings for each channel and an entry for each slot. "For every station" supposes no more
 pub record WellMade (st : Station) : Type 0 where
   pub rows : length (st .rows) ≡ channels
   pub strings : (c : ℕ) → isNoChannel c ≡ false → length (rowAt st c .strings) ≡ 165
   pub entries : length (st .book .entries) ≡ slots
 
-pub record RefusalLeaves (st : Station) (c : ℕ) (st′ : Station) : Type 0 where
+pub record RefusalLeaves (st : Station) (c number : ℕ) (st′ : Station) : Type 0 where
   pub book : st′ .book ≡ st .book
   pub summary : st′ .summary ≡ st .summary
   pub others : (k : ℕ) → (k ≡ c → ⊥) → rowAt st′ k ≡ rowAt st k
-  pub own : OnlyCounted (rowAt st c) (rowAt st′ c)
+  pub own : OnlyCounted number (rowAt st c) (rowAt st′ c)
 
 -- "CHANNEL changes nothing at all": rows, book and summary
 pub record ChannelLeaves (st : Station) (c : ℕ) : Type 0 where

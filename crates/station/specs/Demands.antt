@@ -6,18 +6,19 @@ use Prim.Native.Nat.{ℕ, _^_, _≤_, _<_}
 use mathlib.Core.Bool.{true, false}
 use mathlib.Core.List.{List, _∷_, _++_}
 use mathlib.Core.Path.{_≡_}
-use lib.ListN.{length}
+use lib.ListN.{length, replicate}
 use Rattle.strings.specs.Hamming.{Encoded}
 use Rattle.strings.specs.Damage.{DamagedExactly}
 use Rattle.book.specs.declared.Book.{Book}
 use Rattle.book.specs.Book.{slots}
 use Rattle.immediate.specs.declared.Immediate.{Immediate}
-use Rattle.channel.specs.Offers.{isTaken}
+use Rattle.channel.specs.Offers.{numberSaid, isTaken, TakenCounted}
 use Rattle.channel.specs.Relock.{Heard, FirstOf15}
 use Rattle.station.specs.declared.Station.{Station}
 use Rattle.station.specs.declared.Stepped.{Stepped}
-use Rattle.station.specs.Station.{freshStation, rowAt, isNoChannel, OffersTo}
-use Rattle.station.specs.Queries.{keptAt, healthBy}
+use Rattle.station.specs.declared.Emptied.{Emptied}
+use Rattle.station.specs.Station.{freshStation, rowAt, isNoChannel, OffersTo, Resets}
+use Rattle.station.specs.Queries.{keptAt, allCounts, healthBy}
 use Rattle.station.specs.History.{Call, channelOf, Runs, stationOf}
 use Rattle.station.specs.Said.{Said, RunsFrom, callsOf, Ran}
 use Rattle.station.specs.Demand1.{OneAnswer, StationAnswers, StringsAnswer, StationNumbers, StringNumbers, WellMade, RefusalLeaves, ChannelLeaves, NoOutputByte}
@@ -41,9 +42,9 @@ pub record AllDemands : Type 0 where
   pub string-numbers : StringNumbers
   -- where three numbers stand for DAMAGED: "What is refused stays as it was"
   pub damaged-exactly : (n : ℕ) → DamagedExactly n
-  -- "a refused string changes nothing but its channel's tallies of strings offered and refused,"
+  -- "a refused string changes nothing but its channel's tallies of strings offered and refused," and "its own cause's tally too"
   pub refused : (st : Station) (c epoch : ℕ) (s : List ℕ) (r : Stepped) → WellMade st → isNoChannel c ≡ false → OffersTo st c epoch s r
-      → isTaken (r .answer) ≡ false → RefusalLeaves st c (r .station)
+      → isTaken (r .answer) ≡ false → RefusalLeaves st c (numberSaid (r .answer)) (r .station)
   -- "CHANNEL changes nothing at all"
   pub no-channel : (st : Station) (c : ℕ) → isNoChannel c ≡ true → ChannelLeaves st c
   -- "and no output byte."
@@ -64,9 +65,15 @@ pub record AllDemands : Type 0 where
   -- "A record written and read back is the same record; a good string read and written again is the same string, its repair made, but that reserved
   -- bits and minus zeros become plain zeros and the check bits follow."
   pub round-trips : RoundTrips
-  -- "The four tallies are the true counts since the channel's reset, and stay at 65,535 once there."
+  -- "The four tallies are the true counts since the channel's reset", "32 bits wide and stay at 4,294,967,295"; and "one such tally for each refusal that
+  -- an offer on a valid channel can get"
   pub tallies : (all : List Said) (st : Station) → RunsFrom freshStation all st → (c : ℕ) → isNoChannel c ≡ false → Tallied all st c
   pub counts : (cs : List Call) (st : Station) → Runs cs st → (c : ℕ) → isNoChannel c ≡ false → Counted cs st c
+  -- of every station: a taken offer moves no cause, and a reset leaves all fourteen at 0
+  pub taken-counts : (st : Station) (c epoch : ℕ) (s : List ℕ) (r : Stepped) → WellMade st → isNoChannel c ≡ false → OffersTo st c epoch s r
+      → isTaken (r .answer) ≡ true → TakenCounted (r .answer) (rowAt st c .tallies) (rowAt (r .station) c .tallies)
+  pub reset-counts : (st : Station) (c : ℕ) (r : Emptied) → WellMade st → isNoChannel c ≡ false → Resets st c r
+      → allCounts (rowAt (r .station) c .tallies) ≡ replicate 14 0
   -- ==== 3. "Start with a fresh station and make any calls that offer a string to, or reset, one of channels 0 to 23."
   -- whatever the station and the calls, they can be made; a run with its answers is a run of its calls, which leave one station; it is well made; and
   -- the calls before determine each answer

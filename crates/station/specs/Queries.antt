@@ -2,7 +2,7 @@
 -- Assumes nothing.
 use Prim.Native.Nat.{ℕ, _*_, _^_}
 use mathlib.Core.Bool.{Bool, not, _&&_}
-use mathlib.Core.List.{List, [], _∷_}
+use mathlib.Core.List.{List, [], _∷_, map}
 use mathlib.Core.Path.{_≡_}
 use lib.Dec.{eqb, leb}
 use Rattle.strings.specs.Pick.{pick}
@@ -17,6 +17,7 @@ use Rattle.book.specs.Book.{slots, inSlot}
 use Rattle.summary.specs.declared.Summary.{Summary}
 use Rattle.immediate.specs.declared.Immediate.{Immediate}
 use Rattle.tallies.specs.declared.Tallies.{Tallies}
+use Rattle.tallies.specs.Tallies.{causes, causeOf}
 use Rattle.immediate.specs.Kept.{hasRecord}
 use Rattle.station.specs.declared.Station.{Station}
 use Rattle.station.specs.declared.Health.{Health}
@@ -73,15 +74,16 @@ pub record FindsEntry (st : Station) (k : ℕ) (r : EntryFound) : Type 0 where
   pub entry : (e : Entry) → r ≡ FoundEntry e → e ≡ inSlot (st .book) k
 
 -- ---- the tallies: 1
-abbrev pub fourCounts : Tallies → List ℕ
-fourCounts t = t .offered ∷ t .clean ∷ t .repaired ∷ t .refused ∷ []
+-- the four, and those of the causes in the order of the tests
+abbrev pub allCounts : Tallies → List ℕ
+allCounts t = t .offered ∷ t .clean ∷ t .repaired ∷ t .refused ∷ map (causeOf t) causes
 
 abbrev pub talliesPaper : TalliesFound → List ℕ
-talliesPaper (FoundTallies t) = 0 ∷ fourCounts t
+talliesPaper (FoundTallies t) = 0 ∷ allCounts t
 talliesPaper (NoTallies q) = refusalPaper q
 
 unfoldable pub FindsTallies : Station → ℕ → TalliesFound → Type 0
-FindsTallies st c r = talliesPaper r ≡ answerOf (channelTests c) (fourCounts (rowAt st c .tallies))
+FindsTallies st c r = talliesPaper r ≡ answerOf (channelTests c) (allCounts (rowAt st c .tallies))
 
 -- ---- the summary, which is never refused: "how many slots are filled, the oldest day and the newest", as the station keeps it
 abbrev pub FindsSummary : Station → Summary → Type 0

@@ -3,7 +3,7 @@
 -- string itself is taken as clean. The proof stands in `proofs/Sent.antt`.
 -- Assumes nothing.
 use Prim.Native.Nat.{ℕ, _-_, _%_, _^_, _≤_, _<_}
-use mathlib.Core.List.{List, [], _∷_}
+use mathlib.Core.List.{List, [], _∷_, map}
 use mathlib.Core.Logic.{_⊎_}
 use mathlib.Core.Path.{_≡_, refl}
 use lib.Dec.{lit<, lit≤}
@@ -13,7 +13,7 @@ use Rattle.strings.specs.Hamming.{position, sumC, sumAll, syndrome, Encoded}
 use Rattle.strings.specs.Known.{a}
 use Rattle.relative.specs.Relative.{writeRelative, inverse}
 use Rattle.tallies.specs.declared.Tallies.{Tallies}
-use Rattle.tallies.specs.Tallies.{oneMore}
+use Rattle.tallies.specs.Tallies.{causes, causeOf, oneMore}
 use Rattle.channel.specs.Row.{emptyRow}
 use Rattle.channel.specs.Offers.{answerPaper}
 use Rattle.station.specs.declared.Station.{Station}
@@ -66,6 +66,7 @@ pub record SameButVerdict (before : Station) (c : ℕ) (clean repaired : Station
   pub immediate : rowAt repaired c .immediate ≡ rowAt clean c .immediate
   pub offered : talliesAt repaired c .offered ≡ talliesAt clean c .offered
   pub refused : talliesAt repaired c .refused ≡ talliesAt clean c .refused
+  pub causes-stay : talliesAt repaired c .causes ≡ talliesAt clean c .causes
   -- "It adds to offered and to clean or repaired by the verdict"
   pub clean-counted : talliesAt clean c .clean ≡ oneMore (talliesAt before c .clean)
   pub clean-not : talliesAt clean c .repaired ≡ talliesAt before c .repaired
@@ -83,13 +84,13 @@ pub record HeardAsSent (st : Station) (c epoch n : ℕ) : Type 0 where
   -- and of a station that has its rows it leaves what the string leaves that was sent
   pub left : (i : ℕ) (s t : List ℕ) (q r : Stepped) → length (st .rows) ≡ channels → Awaits st c epoch n → IsBit i → (i ≡ 8 → ⊥)
       → SentAs n s → OffersTo st c epoch s q → SentAs (flip n i) t → OffersTo st c epoch t r → SameButVerdict st c (q .station) (r .station)
-  -- the tallies that are then told: offered, clean, repaired, refused
+  -- the tallies that are then told: offered, clean, repaired, refused, and the causes
   pub clean-told : (s : List ℕ) (r : Stepped) (t : TalliesFound) → length (st .rows) ≡ channels → Awaits st c epoch n → SentAs n s → OffersTo st c epoch s r
       → FindsTallies (r .station) c t
-      → talliesPaper t ≡ 0 ∷ oneMore (talliesAt st c .offered) ∷ oneMore (talliesAt st c .clean) ∷ talliesAt st c .repaired ∷ talliesAt st c .refused ∷ []
+      → talliesPaper t ≡ 0 ∷ oneMore (talliesAt st c .offered) ∷ oneMore (talliesAt st c .clean) ∷ talliesAt st c .repaired ∷ talliesAt st c .refused ∷ map (causeOf (talliesAt st c)) causes
   pub repaired-told : (i : ℕ) (s : List ℕ) (r : Stepped) (t : TalliesFound) → length (st .rows) ≡ channels → Awaits st c epoch n → IsBit i → (i ≡ 8 → ⊥)
       → SentAs (flip n i) s → OffersTo st c epoch s r → FindsTallies (r .station) c t
-      → talliesPaper t ≡ 0 ∷ oneMore (talliesAt st c .offered) ∷ talliesAt st c .clean ∷ oneMore (talliesAt st c .repaired) ∷ talliesAt st c .refused ∷ []
+      → talliesPaper t ≡ 0 ∷ oneMore (talliesAt st c .offered) ∷ talliesAt st c .clean ∷ oneMore (talliesAt st c .repaired) ∷ talliesAt st c .refused ∷ map (causeOf (talliesAt st c)) causes
   -- "a flip of bit 8 alone is refused": 31, "S = 0, C = 1"; and "every two flips are DAMAGED": 32, "S not 0, C = 0". Whatever the channel holds, at
   -- every epoch
   pub bit-8 : (s : List ℕ) (r : Stepped) → c ≤ lastChannel → SentAs (flip n 8) s → OffersTo st c epoch s r → answerPaper (r .answer) ≡ 31 ∷ []

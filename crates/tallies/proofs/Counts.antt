@@ -1,7 +1,7 @@
--- A tally is the true count, and stays at its limit (true-counts): after any offers since the reset each of the four is the lesser of 65,535 and
--- how many of the offers were of its sort. Each offer is of exactly one of the three sorts (adds-up).
+-- A tally is the true count, and stays at its limit (true-counts, truly-counted): after any offers since the reset each of the fourteen is the lesser of
+-- 4,294,967,295 and how many of the offers were of its sort.
 -- Assumes nothing.
-use mathlib.Core.Path.{_≡_, refl, sym, ap, _∙_}
+use mathlib.Core.Path.{_≡_, refl, sym, ap, ap₂, _∙_}
 use mathlib.Core.Bool.{Bool, true, false}
 use mathlib.Core.List.{List, [], _∷_}
 use Prim.Native.Nat.{ℕ, _+_, _≤_, _<_, min}
@@ -9,10 +9,11 @@ use native.Mathlib.Nat.{min-eq-left, min-eq-right}
 use native.Mathlib.Omega.{arith}
 use borrow.Author.Tests.{ltb-true, ltb-false}
 use lib.Dec.{ltb}
-use Rattle.strings.specs.declared.Verdict.the-variants.{Clean, Repaired}
+use Rattle.strings.specs.Pick.{isOneOf}
 use Rattle.tallies.specs.declared.Tallies.{Tallies}
-use Rattle.tallies.specs.Tallies.{Outcome, isOffer, isClean, isRepaired, isRefused, limit, oneMore, oneMoreIf, afterOffers, howMany, plusIf}
-use Rattle.tallies.specs.Tallies.Outcome.{Refused, Taken}
+use Rattle.tallies.specs.Tallies.{Outcome, isOffer, isClean, isRepaired, isRefused, causes, isRefusedBy, causeOf, limit, oneMore, oneMoreIf, afterOffers, howMany, plusIf}
+use Rattle.tallies.specs.Counts.{TrueCounts}
+use Rattle.tallies.proofs.Whose.{Each, each, cause-after}
 
 -- ---- one more: a step below the limit, none there
 module _ (n : ℕ) where
@@ -42,23 +43,26 @@ more-if : (b : Bool) (n : ℕ) → oneMoreIf b (min limit n) ≡ min limit (plus
 more-if true n = more-of-least n
 more-if false n = refl
 
--- the four tallies that some offers ought to have left
-abbrev pub counts : List Outcome → Tallies
-counts os =
+-- a tally that an offer moves by its sort
+moved : (is : Outcome → Bool) (o : Outcome) (os : List Outcome) (n : ℕ) → n ≡ min limit (howMany is os) → oneMoreIf (is o) n ≡ min limit (howMany is (o ∷ os))
+moved is o os n e = ap (oneMoreIf (is o)) e ∙ more-if (is o) (howMany is os)
+
+pub true-counts : (os : List Outcome) → TrueCounts os (afterOffers os)
+true-counts [] =
     record {
-      offered = min limit (howMany isOffer os);
-      clean = min limit (howMany isClean os);
-      repaired = min limit (howMany isRepaired os);
-      refused = min limit (howMany isRefused os);
+      offered = refl;
+      clean = refl;
+      repaired = refl;
+      refused = refl;
+      cause = each (λ (k : ℕ). causeOf (afterOffers []) k ≡ 0) causes (refl, (refl, (refl, (refl, (refl, (refl, (refl, (refl, (refl, (refl, tt))))))))));
     }
-
-pub true-counts : (os : List Outcome) → afterOffers os ≡ counts os
-true-counts [] = refl
 true-counts (o ∷ os) =
-    rw (true-counts os, more-if (isOffer o) (howMany isOffer os), more-if (isClean o) (howMany isClean os), more-if (isRepaired o) (howMany isRepaired os), more-if (isRefused o) (howMany isRefused os))
-
-pub adds-up : (os : List Outcome) → howMany isClean os + (howMany isRepaired os + howMany isRefused os) ≡ howMany isOffer os
-adds-up [] = refl
-adds-up (Refused ∷ os) = omega (adds-up os, arith)
-adds-up (Taken Clean ∷ os) = omega (adds-up os, arith)
-adds-up (Taken (Repaired i) ∷ os) = omega (adds-up os, arith)
+    let before = true-counts os in
+    let t : Tallies = afterOffers os in
+    record {
+      offered = moved isOffer o os (t .offered) (before .offered);
+      clean = moved isClean o os (t .clean) (before .clean);
+      repaired = moved isRepaired o os (t .repaired) (before .repaired);
+      refused = moved isRefused o os (t .refused) (before .refused);
+      cause = λ (k : ℕ) m. cause-after o t k m ∙ moved (isRefusedBy k) o os (causeOf t k) (before .cause k m);
+    }

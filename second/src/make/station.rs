@@ -6,6 +6,7 @@ pub(super) mod entry_words;
 mod frames;
 mod health;
 pub(super) mod health_flags;
+pub(super) mod limit;
 pub(super) mod polarity;
 pub(super) mod record;
 mod refusals;

@@ -3,7 +3,7 @@
 use super::frame::{start_of, Frame, Place};
 use super::reception::{receive, Received};
 use super::record::{read_record, strings_of_record, ImmediateRecord, STRINGS_OF_A_RECORD};
-use super::tallies::{count_one, Tallies};
+use super::tallies::Tallies;
 use crate::hamming::Verdict;
 use crate::refusal::Refusal;
 use crate::relative::Polarity;
@@ -38,12 +38,7 @@ impl Row {
     /// Takes or refuses a string, and counts it.
     pub fn offer(&mut self, epoch: u32, symbols: &[u8]) -> Result<Taken, Refusal> {
         let answer = self.take(epoch, symbols);
-        count_one(&mut self.tallies.offered);
-        count_one(match answer.map(|taken| taken.verdict) {
-            Ok(Verdict::Clean) => &mut self.tallies.clean,
-            Ok(Verdict::Repaired { .. }) => &mut self.tallies.repaired,
-            Err(_) => &mut self.tallies.refused,
-        });
+        self.tallies.count(answer.map(|taken| taken.verdict));
         answer
     }
 

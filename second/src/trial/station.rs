@@ -4,6 +4,7 @@ use super::{in_decimal, Answer};
 use crate::refusal::Refusal;
 use crate::station::book::Summary;
 use crate::station::row::{News, Taken};
+use crate::station::tallies::Tallies;
 use crate::station::{Health, Station};
 
 /// Payload: channel, epoch in four bytes, then the string in relative form, of any
@@ -59,16 +60,20 @@ pub fn entry_words(station: &Station, payload: &[u8]) -> Option<Answer> {
     Some(answer.map(|entry| format!("ok {}", in_decimal(&entry.words()))))
 }
 
+/// The four counts of all offers, then those of the ten causes.
 pub fn tallies(station: &Station, payload: &[u8]) -> Option<Answer> {
     let answer = station.tallies(only_byte(payload)?);
     Some(answer.map(|tallies| {
-        let counts = [
-            tallies.offered,
-            tallies.clean,
-            tallies.repaired,
-            tallies.refused,
-        ];
-        format!("ok {}", in_decimal(&counts.map(i64::from)))
+        let Tallies {
+            offered,
+            clean,
+            repaired,
+            refused,
+            by_cause,
+        } = tallies;
+        let of_all = [offered, clean, repaired, refused].map(i64::from);
+        let of_causes = by_cause.map(i64::from);
+        format!("ok {} {}", in_decimal(&of_all), in_decimal(&of_causes))
     }))
 }
 

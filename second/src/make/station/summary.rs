@@ -233,7 +233,7 @@ impl Input {
         let [string_5, even, odd] = self.three(20);
         let first_two = self.offers(0, SOME_START, &[string_5, even]);
         let last = self.offers(0, SOME_START, &[odd]);
-        let refused = self.refused_offers(&odd);
+        let refused = self.refused_offers(0, &odd);
         let but_the_conflict = &refused[..refused.len() - 1];
         let with_repair = odd.flipped(&[40]);
         let again = self.offers(0, SOME_START, &[string_5, even, odd, with_repair]);

@@ -1,5 +1,6 @@
 -- `counting::count_taken` meets its contract. Assumes nothing.
 use borrow.Author.Needs.{needs}
+use Rattle.tallies.specs.Tallies.{causesAfter}
 use Rattle.tallies.proofs.counting.count_taken.Statement.{statement}
 use Rattle.tallies.proofs.counting.count_taken.Tie as tie
 
@@ -19,19 +20,13 @@ one-more-requires-3 : tie.Need-one-more-requires-3
 one-more-requires-3 c κs = search needs
 
 returns : tie.Need-returns
-returns c = rw (c .before .enum-told .given .1, c .before .before .before .one-more .ensures, c .one-more2 .ensures)
+unfolding causesAfter
+returns c = rw (c .before .enum-told .given .1, c .before .before .before .before .one-more .ensures, c .one-more2 .ensures)
 
 returns-2 : tie.Need-returns-2
-returns-2 c = rw (c .before .enum-told2 .given .1, c .before .before .before .one-more .ensures, c .one-more3 .ensures)
+unfolding causesAfter
+returns-2 c = rw (c .before .enum-told2 .given .1, c .before .before .before .before .one-more .ensures, c .one-more3 .ensures)
 
 pub count-taken-spec : {M : Type 1} → statement M
 count-taken-spec =
-    tie.close
-    (tie.spec
-    one-more-requires
-    enum-told
-    one-more-requires-2
-    enum-told-2
-    one-more-requires-3
-    returns
-    returns-2)
+    tie.close (tie.spec one-more-requires enum-told one-more-requires-2 enum-told-2 one-more-requires-3 returns returns-2)

@@ -93,20 +93,20 @@ impl Input {
         let before = self.offers(0, SOME_START, &frame[..1]);
         let mut good = self.offers(0, SOME_START, &frame[1..]).into_iter();
         let mut calls = Vec::new();
-        for wrong in self.refused_offers(&frame[0]) {
+        for wrong in self.refused_offers(0, &frame[0]) {
             calls.push(wrong);
             calls.extend(good.next());
         }
         self.in_both_ways(&before, &calls);
     }
 
-    /// By 1, 2, 31 to 33 and 4 to 9, where this string is held on channel 0, in the frame
+    /// By 1, 2, 31 to 33 and 4 to 9, where this string is held on the channel, in the frame
     /// at SOME_START. The last one is in conflict with it.
-    pub(in super::super) fn refused_offers(&mut self, held: &NavString) -> Vec<Call> {
+    pub(in super::super) fn refused_offers(&mut self, channel: u8, held: &NavString) -> Vec<Call> {
         let right_epoch = SOME_START + held.m() as u32 - 1;
         let [damage_31, damage_32, damage_33] =
             known::FLIPS_OF_CHECK_BITS.map(|(_, flips)| held.flipped(flips));
-        let mut calls = vec![self.offer_call(24, right_epoch, held), padded()];
+        let mut calls = vec![self.offer_call(24, right_epoch, held), padded(channel)];
         for string in [
             damage_31,
             damage_32,
@@ -114,15 +114,15 @@ impl Input {
             held.flipped(&known::FLIPS_TAKEN_FOR_BIT_85),
             with_m(held, 0),
         ] {
-            calls.push(self.offer_call(0, right_epoch, &string));
+            calls.push(self.offer_call(channel, right_epoch, &string));
         }
         let early = with_m(held, 15);
-        calls.push(self.offer_call(0, 13, &early));
+        calls.push(self.offer_call(channel, 13, &early));
         for epoch in [right_epoch - 1, right_epoch + 14] {
-            calls.push(self.offer_call(0, epoch, held));
+            calls.push(self.offer_call(channel, epoch, held));
         }
         let other = with_bit_inverted(held, 40);
-        calls.push(self.offer_call(0, right_epoch, &other));
+        calls.push(self.offer_call(channel, right_epoch, &other));
         calls
     }
 
@@ -233,11 +233,11 @@ impl Input {
     }
 }
 
-fn padded() -> Call {
+fn padded(channel: u8) -> Call {
     let mut symbols = known::B;
     symbols[BYTES - 1] |= 1;
     Call::Offer(Record {
-        channel: 0,
+        channel,
         epoch: SOME_START,
         symbols,
     })
