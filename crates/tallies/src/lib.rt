@@ -6,8 +6,8 @@ pub use counting::count_taken;
 pub use counting::none_counted;
 
 // The counts since the channel's reset: strings offered, taken clean, taken repaired, refused; and the
-// refused ones by cause. A reset leaves all fourteen at 0. They are the last of a row, each a whole word,
-// so that the card moves them a word at a time.
+// refused ones by cause. A reset leaves all fourteen at 0. They are the last of a row, each a word of four
+// bytes, where a host in C reads them.
 #[repr(C)]
 pub struct Tallies {
     pub offered: u32,
