@@ -1,4 +1,4 @@
-// `trial` again, on offers that take each tally past its limit.
+// `trial` again, on 65,540 strings of one channel, each repaired: more than 16 bits count.
 fn main() {
     requests::answer_all();
 }
