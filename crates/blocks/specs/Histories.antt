@@ -2,7 +2,7 @@
 -- a block is the last that is written. Proved as `blocks-as-calls` in `proofs/Histories.antt`.
 -- Assumes nothing.
 use Prim.Native.Nat.{ℕ, _≤_}
-use mathlib.Core.Bool.{false}
+use mathlib.Core.Bool.{true}
 use mathlib.Core.List.{List, [], _∷_, _++_}
 use mathlib.Core.Path.{_≡_}
 use Rattle.strings.specs.Calls.{writtenPaper}
@@ -12,7 +12,7 @@ use Rattle.channel.specs.Offers.{answerPaper}
 use Rattle.station.specs.declared.Station.{Station}
 use Rattle.station.specs.declared.Stepped.{Stepped}
 use Rattle.station.specs.declared.Emptied.{Emptied}
-use Rattle.station.specs.Station.{freshStation, isNoChannel, OffersTo, Resets}
+use Rattle.station.specs.Station.{freshStation, isServed, OffersTo, Resets}
 use Rattle.station.specs.Queries.{keptAt, healthBy}
 use Rattle.station.specs.History.{Call as Made, Offer as MadeOffer, Reset as MadeReset, channelOf, stationOf}
 use Rattle.station.specs.Said.{Said, said, RunsFrom, callsOf}
@@ -70,8 +70,8 @@ pub record BlocksAsCalls : Type 0 where
   pub well-made : (h : List Event) (st : Station) → RunsBy freshStation h st → WellMade st
   pub answers : (h : List Event) (st : Station) → RunsBy freshStation h st → Answered (callsBy h) st
   -- "The four tallies are the true counts since the channel's reset"
-  pub tallies : (h : List Event) (st : Station) → RunsBy freshStation h st → (c : ℕ) → isNoChannel c ≡ false → Tallied (saidIn h) st c
-  pub counts : (h : List Event) (st : Station) → RunsBy freshStation h st → (c : ℕ) → isNoChannel c ≡ false → Counted (callsBy h) st c
+  pub tallies : (h : List Event) (st : Station) → RunsBy freshStation h st → (c : ℕ) → isServed c ≡ true → Tallied (saidIn h) st c
+  pub counts : (h : List Event) (st : Station) → RunsBy freshStation h st → (c : ℕ) → isServed c ≡ true → Counted (callsBy h) st c
   -- "Exchange two neighbouring calls on different channels: each call's answer and the whole station afterwards are unchanged": wherever the two stand, in
   -- one block, at the edge of one, or in two blocks
   pub exchange : (later earlier : List Said) (x y : Said) (h : List Event) (st : Station) → (channelOf (x .call) ≡ channelOf (y .call) → ⊥)
@@ -88,5 +88,5 @@ pub record BlocksAsCalls : Type 0 where
   pub book : (h : List Event) (st : Station) → RunsBy freshStation h st → (slot : ℕ) → 1 ≤ slot → slot ≤ slots → BookRule (callsBy h) st slot
   -- "The summary must equal what the full walk gives, for every station reached from a fresh one."
   pub summary : (h : List Event) (st : Station) → RunsBy freshStation h st → SummaryRule (callsBy h) st
-  pub health : (h : List Event) (st : Station) → RunsBy freshStation h st → (c : ℕ) → isNoChannel c ≡ false
+  pub health : (h : List Event) (st : Station) → RunsBy freshStation h st → (c : ℕ) → isServed c ≡ true
       → HealthIn (callsBy h) c (healthBy (keptAt st c) (st .book))

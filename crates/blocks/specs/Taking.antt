@@ -12,7 +12,7 @@ use Rattle.fields.specs.Fields.{tagIn, testsIn, isGood, sizeAt, whyNumber}
 use Rattle.fields.specs.Block.{Call, Offer, Reset, callIn}
 use Rattle.channel.specs.Offers.{answerPaper}
 use Rattle.station.specs.declared.Station.{Station}
-use Rattle.station.specs.Station.{stationTests, channelTests, toldIn, stationAfter, stationReset}
+use Rattle.station.specs.Station.{stationTests, shutSays, toldIn, stationAfter, stationReset}
 use Rattle.blocks.specs.declared.Told.{Told}
 use Rattle.blocks.specs.declared.Told.the-variants.{End, Offered, Emptied, Remark, Refused}
 use Rattle.blocks.specs.declared.Taken.{Taken}
@@ -20,7 +20,7 @@ use Rattle.blocks.specs.declared.Taken.{Taken}
 -- ---- a call that a block asks for, made on a station: its own answer in the paper's numbers, refusals included, and the station after it
 unfoldable pub answerIn : Station → Call → List ℕ
 answerIn st (Offer c epoch s) = answerOf (stationTests st c epoch s) (toldIn st c epoch s)
-answerIn st (Reset c) = answerOf (channelTests c) []
+answerIn st (Reset c) = shutSays c
 
 unfoldable pub afterCall : Station → Call → Station
 afterCall st (Offer c epoch s) = stationAfter st c epoch s

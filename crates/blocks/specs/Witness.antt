@@ -24,7 +24,7 @@ use Rattle.shows.specs.Shows.{frameBy, brought}
 use Rattle.fields.specs.Fields.{isGood, sizeIn}
 use Rattle.fields.specs.Block.{Offer, Reset, callIn, fieldsOver, fieldsIn, callsOf, callsIn, joined, endFrom, endIn}
 use Rattle.station.specs.declared.Station.{Station}
-use Rattle.station.specs.Station.{freshStation, noRow, rowAt, stationAfter, stationReset}
+use Rattle.station.specs.Station.{freshStation, noRow, rowAt, isServed, stationAfter, stationReset}
 use Rattle.station.specs.Queries.{allCounts}
 use Rattle.blocks.specs.Taking.{answerIn, afterCall, afterCalls, answersTo}
 
@@ -53,6 +53,6 @@ pub record Witness : Type 0 where
   pub seventh-counts : allCounts (rowAt (afterCalls before (callsIn block)) 7 .tallies) ≡ 2 ∷ 1 ∷ 0 ∷ 1 ∷ 0 ∷ 0 ∷ 0 ∷ 0 ∷ 0 ∷ 0 ∷ 0 ∷ 0 ∷ 1 ∷ 0 ∷ []
 
 pub witness : Witness
-unfolding before one two three soundTests numberOf paddingOf misshapen wordOf flip stringBytes readRelative writeRelative firstSymbol position sumC sumAll syndrome sumsSet highest placed judge ruling mended layout valuesOf firstBad goodWords entryOf greater dayOf isShown threeOf shownBy emptyBook joinedBook joinedShown oneMore causesAfter isPresent holdsFrame hasRecord emptyRow newFrame stored heldWith counted takenRow frameBy brought freshStation noRow stationAfter stationReset isGood sizeIn callIn fieldsOver fieldsIn callsOf joined endFrom answerIn afterCall afterCalls answersTo
+unfolding before one two three soundTests numberOf paddingOf misshapen wordOf flip stringBytes readRelative writeRelative firstSymbol position sumC sumAll syndrome sumsSet highest placed judge ruling mended layout valuesOf firstBad goodWords entryOf greater dayOf isShown threeOf shownBy emptyBook joinedBook joinedShown oneMore causesAfter isPresent holdsFrame hasRecord emptyRow newFrame stored heldWith counted takenRow frameBy brought freshStation noRow isServed stationAfter stationReset isGood sizeIn callIn fieldsOver fieldsIn callsOf joined endFrom answerIn afterCall afterCalls answersTo
 witness =
     record { calls = refl; end = refl; answers = refl; third-row = refl; seventh-row = refl; seventh-counts = refl }

@@ -24,7 +24,7 @@ use Rattle.channel.specs.Offers.{takenRow, storesIt}
 use Rattle.shows.specs.Shows.{frameBy, brought, changes}
 use Rattle.channel.specs.Witness.{whole, inBytes, sent, five, six1, seven}
 use Rattle.station.specs.declared.Station.{Station}
-use Rattle.station.specs.Station.{freshStation, noRow, rowAt, heldAt, entryChanges, stationAfter, stationReset}
+use Rattle.station.specs.Station.{freshStation, noRow, rowAt, heldAt, isServed, entryChanges, stationAfter, stationReset}
 use Rattle.station.specs.History.{Call, Offer, Reset, stationOf}
 use Rattle.histories.specs.Witness.{six2, fiveNext}
 
@@ -102,7 +102,7 @@ pub record Panel : Type 0 where
   pub reset-keeps : stationOf (Reset 11 ∷ replacedCalls) .summary ≡ said 3 8767 8768
 
 pub panel : Panel
-unfolding whole inBytes sent five six1 seven six2 fiveNext fiveThird six3 soundTests numberOf paddingOf misshapen wordOf flip stringBytes readRelative writeRelative firstSymbol position sumC sumAll syndrome sumsSet highest placed judge ruling mended sumsMade encode layout valuesOf firstBad entryOf greater isGood dayOf isShown threeOf shownBy emptyBook joined joinedShown oneMore causesAfter isPresent holdsFrame hasRecord emptyRow newFrame stored heldWith counted takenRow frameBy brought changes noneFilled withLine walkFrom walkOf freshStation noRow stationAfter stationReset stationOf beforeAgain again
+unfolding whole inBytes sent five six1 seven six2 fiveNext fiveThird six3 soundTests numberOf paddingOf misshapen wordOf flip stringBytes readRelative writeRelative firstSymbol position sumC sumAll syndrome sumsSet highest placed judge ruling mended sumsMade encode layout valuesOf firstBad entryOf greater isGood dayOf isShown threeOf shownBy emptyBook joined joinedShown oneMore causesAfter isPresent holdsFrame hasRecord emptyRow newFrame stored heldWith counted takenRow frameBy brought changes noneFilled withLine walkFrom walkOf freshStation noRow isServed stationAfter stationReset stationOf beforeAgain again
 panel =
     record {
       fiveThird-sent = refl;

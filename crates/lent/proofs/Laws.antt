@@ -37,7 +37,7 @@ use Rattle.hearing.specs.Hears.{plainOf, wholeOf, verdictOf}
 use Rattle.station.specs.declared.Station.{Station}
 use Rattle.station.specs.declared.Stepped.{Stepped}
 use Rattle.station.specs.declared.Emptied.{Emptied}
-use Rattle.station.specs.Station.{heldAt, isNoChannel, stationTests, toldIn, stationAfter, OffersTo, stationReset}
+use Rattle.station.specs.Station.{lastChannel, heldAt, stationTests, toldIn, stationAfter, OffersTo, stationReset}
 use Rattle.station.specs.History.{Call, Offer, Reset, Runs, offering, resetting}
 use Rattle.station.proofs.EveryHistory.{some-answer, offer-answers, reset-answer, reset-answers}
 use Rattle.told.specs.Told.{packed, AreBytes}
@@ -162,7 +162,7 @@ module _ (st : Station) (c : ℕ) where
     resets-on cs run o = subst (Runs (Reset c ∷ cs)) (sym (o .station)) (resetting c cs st emptied run (reset-answers st c))
 
     bit-holds : ResetsLent st c st′ r → r < 2
-    bit-holds o = subst (λ (k : ℕ). k < 2) (sym (o .answer)) (by (isNoChannel c))
+    bit-holds o = subst (λ (k : ℕ). k < 2) (sym (o .answer)) (by (ltb lastChannel c))
       where
         by : (b : Bool) → packed (answerOf (test 1 b ∷ []) []) < 2
         by true = omega arith

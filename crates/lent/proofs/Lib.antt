@@ -1,7 +1,7 @@
-pub mod Channel
 pub mod Item
 pub mod Packed
 pub mod Parts
+pub mod Gate
 pub mod Turns
 pub mod Walk
 pub mod Laws

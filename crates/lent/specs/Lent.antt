@@ -2,14 +2,14 @@
 -- Assumes nothing.
 use Prim.Native.Nat.{ℕ}
 use mathlib.Core.Bool.{Bool}
-use mathlib.Core.List.{List, []}
+use mathlib.Core.List.{List}
 use mathlib.Core.Path.{_≡_}
 use Rattle.strings.specs.Numbers.{answerOf}
 use Rattle.book.specs.declared.Shown.{Shown}
 use Rattle.book.specs.Book.{joinedShown}
 use Rattle.shows.specs.Shows.{brought, risesIn, changes}
 use Rattle.station.specs.declared.Station.{Station}
-use Rattle.station.specs.Station.{stationTests, channelTests, toldIn, corrected, stationAfter, stationReset}
+use Rattle.station.specs.Station.{stationTests, shutSays, toldIn, corrected, stationAfter, stationReset}
 use Rattle.told.specs.Told.{packed}
 
 -- the station left in its place, and the answer in the paper's numbers, the first in the lowest byte
@@ -19,7 +19,7 @@ pub record OffersLent (st : Station) (c epoch : ℕ) (s : List ℕ) (st′ : Sta
 
 -- "Reset: 1": in the same way
 pub record ResetsLent (st : Station) (c : ℕ) (st′ : Station) (r : ℕ) : Type 0 where
-  pub answer : r ≡ packed (answerOf (channelTests c) [])
+  pub answer : r ≡ packed (shutSays c)
   pub station : st′ ≡ stationReset st c
 
 -- one thing that is shown, joined to the book, and whether an entry changed; the rows and the summary as they were

@@ -6,21 +6,22 @@ use book::join;
 use book::place_of;
 use book::rises;
 use shows::newly_shown;
-use station::LAST_CHANNEL;
 use station::Station;
+use station::gate_number;
 use summary::walk_book;
 ghost use Rattle.book.specs.Book.{InBook};
 ghost use Rattle.shows.specs.Changes.{AllInBook};
 ghost use Rattle.lent.specs.Lent.{OffersLent, BringsAll, BringsOne, SumsUp};
 
-// Offers a string, in relative form and of any length, to a channel at an epoch. CHANNEL is told as
-// 1, before anything of the station is read.
+// Offers a string, in relative form and of any length, to a channel at an epoch. What the gate says no
+// to is told before anything of the station is read.
 #[no_mangle]
 pub extern "C" fn spineyarrow_offer(st: &mut Station, channel: u8, epoch: u32, s: &[u8]) -> u64
     ensures { λ r. ⌜ OffersLent (now (st .entry)) channel epoch (now (s .entry)) (now (st .exit)) r ⌝ }
 {
-    if LAST_CHANNEL < channel {
-        return 1;
+    let shut = gate_number(channel);
+    if 0 < shut {
+        return shut;
     }
     let i = channel as usize;
     let offered = channel::offer(st.rows[i], epoch, s);

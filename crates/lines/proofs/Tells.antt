@@ -17,9 +17,9 @@ use Rattle.strings.specs.declared.Verdict.{Verdict}
 use Rattle.strings.specs.declared.Verdict.the-variants.{Clean, Repaired}
 use Rattle.strings.specs.Number.{numberOf}
 use Rattle.strings.proofs.Answer.{refusal-known}
-use Rattle.strings.specs.Numbers.{refusalPaper, Test, test, firstOf, placeOf, saidBy, answerOf}
+use Rattle.strings.specs.Numbers.{refusalPaper, Test, firstOf, placeOf, saidBy, answerOf}
 use Rattle.strings.specs.Calls.{soundTests}
-use Rattle.strings.proofs.Tests.{past-first, allOf, first-of, first-by}
+use Rattle.strings.proofs.Tests.{allOf, first-of, first-by}
 use Rattle.words.specs.Calls.{numberIn}
 use Rattle.channel.specs.declared.News.{News}
 use Rattle.channel.specs.declared.Answer.{Answer}
@@ -32,7 +32,8 @@ use Rattle.channel.specs.Offers.{toldAs, answerPaper}
 use Rattle.channel.proofs.HeldFrame.{first-said}
 use Rattle.station.specs.declared.Station.{Station}
 use Rattle.station.specs.declared.Stepped.{Stepped}
-use Rattle.station.specs.Station.{heldAt, isNoChannel, stationTests, toldIn, OffersTo}
+use Rattle.station.specs.Station.{heldAt, gateTests, stationTests, toldIn, OffersTo}
+use Rattle.station.proofs.Served.{past-gate}
 use Rattle.lines.specs.declared.Line.{Line}
 use Rattle.lines.specs.declared.Listed.{Listed}
 use Rattle.seen.specs.declared.seeing.Seen.{Seen}
@@ -113,9 +114,9 @@ module _ (st : Station) (c epoch : ℕ) (s : List ℕ) where
       ap₂ (λ (y z : ℕ). seen y z (polarityNumber p)) b i ∙ ap (seen (bitIn (verdictIn s)) (numberIn n)) f
   seen-taken m v w p (suc k) e = let z : _≡_ {A = ℕ} 0 (suc k) = ap (λ (l : List ℕ). getD l 0 0) e in absurd (omega arith)
 
-  -- those before the place: CHANNEL, and what is heard of the bytes
+  -- those before the place: the gate, and what is heard of the bytes
   abbrev first : List Test
-  first = test 1 (isNoChannel c) ∷ hearTests s
+  first = gateTests c ++ hearTests s
 
   abbrev after : List Test
   after = placeTests (heldAt st c) epoch (wholeOf s)
@@ -146,7 +147,7 @@ module _ (st : Station) (c epoch : ℕ) (s : List ℕ) where
       let m = numberIn (wholeOf s) in
       ⊎-elim (λ (h : T (heldBack k)). held-back (isOneOf beforeVerdict k) (isOneOf beforeNumber k) (isHeard s) bit m h)
       (λ (o : (firstOf first ≡ 0) × (k ≡ firstOf after)).
-      let heard = eq-eqb (firstOf (hearTests s)) 0 (past-first 0 (isNoChannel c) (hearTests s) (o .0) .1) in
+      let heard = eq-eqb (firstOf (hearTests s)) 0 (past-gate c (hearTests s) (o .0)) in
       subst (λ (t : Bool). Again k t bit m) (sym heard) (place-seen k (o .1))) (first-by heldBack first after first-held)
 
   -- a refusal's number is not 0, so the line tells no polarity

@@ -15,7 +15,7 @@ use Rattle.channel.specs.Row.{isPresent, holdsFrame, emptyRow, newFrame, stored
 use Rattle.channel.specs.Offers.{takenRow}
 use Rattle.seen.specs.Known.{sent, zeroRepaired, oneRepaired, oneUnplaced, oneEven, oneOutside, oneIdle, inverted}
 use Rattle.station.specs.declared.Station.{Station}
-use Rattle.station.specs.Station.{freshStation, stationAfter}
+use Rattle.station.specs.Station.{freshStation, isServed, stationAfter}
 use Rattle.lines.specs.declared.Line.{Line}
 use Rattle.lines.specs.Line.{lineFor}
 
@@ -56,7 +56,7 @@ pub record Refused : Type 0 where
   pub taken-inverted : lineFor heard (recordOf 100 (inverted oneRepaired)) ≡ line 100 0 9 1 1
 
 pub refused : Refused
-unfolding heard soundTests numberOf paddingOf misshapen wordOf flip stringBytes readRelative writeRelative inverse firstSymbol position sumC sumAll syndrome sumsSet highest placed judge ruling mended sumsMade encode isPresent holdsFrame emptyRow newFrame stored heldWith counted takenRow freshStation stationAfter lineFor
+unfolding heard soundTests numberOf paddingOf misshapen wordOf flip stringBytes readRelative writeRelative inverse firstSymbol position sumC sumAll syndrome sumsSet highest placed judge ruling mended sumsMade encode isPresent holdsFrame emptyRow newFrame stored heldWith counted takenRow freshStation isServed stationAfter lineFor
 refused =
     record {
       unplaced = refl;

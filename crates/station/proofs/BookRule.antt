@@ -30,9 +30,10 @@ use Rattle.channel.proofs.HeldFrame.{held-is, frame-after, runs-long}
 use Rattle.station.specs.declared.Station.{Station}
 use Rattle.station.specs.declared.Stepped.{Stepped}
 use Rattle.station.specs.declared.Emptied.{Emptied}
-use Rattle.station.specs.Station.{freshStation, rowAt, isNoChannel, bookAfter, OffersTo, Resets}
-use Rattle.station.specs.History.{Call, Offer, Reset, channelOf, itself, callsOn, Part, whole, earlier, pairs, ShownIn, Greatest, Runs, fresh, offering, resetting}
-use Rattle.station.proofs.ChannelRuns.{in-step, calls-same, calls-other, after-none, after-some, reset-none, reset-some}
+use Rattle.station.specs.Station.{freshStation, rowAt, isServed, bookAfter, OffersTo, Resets}
+use Rattle.station.specs.History.{Call, Offer, Reset, channelOf, itself, isLetIn, isOn, callsOn, Part, whole, earlier, pairs, ShownIn, Greatest, Runs, fresh, offering, resetting}
+use Rattle.station.proofs.Served.{served-below}
+use Rattle.station.proofs.ChannelRuns.{in-step, on-both, on-own, calls-same, calls-other, after-none, after-some, reset-none, reset-some}
 use Rattle.station.proofs.Holding.{Dated, Holding, holding-same, InShows, Right, AllRight, brought-full, holding-brought}
 
 -- ---- what a frame shows
@@ -115,7 +116,7 @@ in-pair f (x ∷ qs) k u i = by (shownAt f x) refl i (in-pair f qs k u)
 
 -- ---- what is shown after one call more: what was shown before, and what the channel's frame then shows
 record Newly (call : Call) (cs : List Call) (k : ℕ) (u : Three) : Type 0 where
-  served : isNoChannel (channelOf call) ≡ false
+  served : isLetIn call ≡ true
   at : At-pair (heldAfter (itself call ∷ callsOn (channelOf call) cs)) pairs k u
 
 part-split : (call : OnChannel) (l m : List OnChannel) → Part m (call ∷ l) → (m ≡ call ∷ l) ⊎ Part m l
@@ -129,13 +130,13 @@ module _ (call : Call) (cs : List Call) (k : ℕ) (u : Three) where
         channel = w .channel;
         served = w .served;
         moment = w .moment;
-        within = by (eqb (channelOf call) (w .channel)) refl;
+        within = by (isOn (w .channel) call) refl;
         pair = w .pair;
         named = w .named;
         shows = w .shows;
       }
     where
-      by : (t : Bool) → eqb (channelOf call) (w .channel) ≡ t → Part (w .moment) (callsOn (w .channel) (call ∷ cs))
+      by : (t : Bool) → isOn (w .channel) call ≡ t → Part (w .moment) (callsOn (w .channel) (call ∷ cs))
       by true q =
           subst (Part (w .moment)) (sym (calls-same (w .channel) call cs q)) (earlier (itself call) (w .moment) (callsOn (w .channel) cs) (w .within))
       by false q = subst (Part (w .moment)) (sym (calls-other (w .channel) call cs q)) (w .within)
@@ -148,24 +149,24 @@ module _ (call : Call) (cs : List Call) (k : ℕ) (u : Three) where
         channel = c;
         served = n .served;
         moment = m;
-        within = subst (Part m) (sym (calls-same c call cs (eq-eqb c c refl))) (whole m);
+        within = subst (Part m) (sym (calls-same c call cs (on-own call (n .served)))) (whole m);
         pair = n .at .pair;
         named = n .at .named;
         shows = n .at .shows;
       }
 
   shown-split : ShownIn (call ∷ cs) k u → ShownIn cs k u ⊎ Newly call cs k u
-  shown-split w = by (eqb (channelOf call) (w .channel)) refl
+  shown-split w = by (isOn (w .channel) call) refl
     where
       -- a moment before this call
       old : Part (w .moment) (callsOn (w .channel) cs) → ShownIn cs k u
       old p = record { channel = w .channel; served = w .served; moment = w .moment; within = p; pair = w .pair; named = w .named; shows = w .shows }
 
       -- this moment
-      new : channelOf call ≡ w .channel → w .moment ≡ itself call ∷ callsOn (w .channel) cs → Newly call cs k u
-      new q e =
+      new : isLetIn call ≡ true → channelOf call ≡ w .channel → w .moment ≡ itself call ∷ callsOn (w .channel) cs → Newly call cs k u
+      new let-in q e =
           record {
-            served = ap isNoChannel q ∙ w .served;
+            served = let-in;
             at = record {
               pair = w .pair;
               named = w .named;
@@ -174,9 +175,9 @@ module _ (call : Call) (cs : List Call) (k : ℕ) (u : Three) where
             };
           }
 
-      by : (t : Bool) → eqb (channelOf call) (w .channel) ≡ t → ShownIn cs k u ⊎ Newly call cs k u
+      by : (t : Bool) → isOn (w .channel) call ≡ t → ShownIn cs k u ⊎ Newly call cs k u
       by true q =
-          ⊎-elim (λ e. inr (new (eqb-true (channelOf call) (w .channel) q) e)) (λ (p : Part (w .moment) (callsOn (w .channel) cs)). inl (old p))
+          ⊎-elim (λ e. let b = on-both call (w .channel) q in inr (new (b .0) (b .1) e)) (λ (p : Part (w .moment) (callsOn (w .channel) cs)). inl (old p))
           (part-split (itself call) (callsOn (w .channel) cs) (w .moment) (subst (Part (w .moment)) (calls-same (w .channel) call cs q) (w .within)))
       by false q = inl (old (subst (Part (w .moment)) (calls-other (w .channel) call cs q) (w .within)))
 
@@ -188,9 +189,9 @@ holding-quiet call cs k x q h =
     holding-same (ShownIn cs k) (ShownIn (call ∷ cs) k) x (λ u. shown-kept call cs k u)
     (λ u w. ⊎-elim (λ (o : ShownIn cs k u). o) (λ (n : Newly call cs k u). q u n) (shown-split call cs k u w)) h
 
--- a call on no channel shows nothing
-quiet-none : (call : Call) (cs : List Call) (k : ℕ) → isNoChannel (channelOf call) ≡ true → (u : Three) → Newly call cs k u → ShownIn cs k u
-quiet-none call cs k e u n = absurd (true≢false (sym e ∙ n .served))
+-- a call that is not let in shows nothing
+quiet-none : (call : Call) (cs : List Call) (k : ℕ) → isLetIn call ≡ false → (u : Three) → Newly call cs k u → ShownIn cs k u
+quiet-none call cs k e u n = absurd (true≢false (sym (n .served) ∙ e))
 
 -- nor does a reset
 quiet-reset : (c : ℕ) (cs : List Call) (k : ℕ) (u : Three) → Newly (Reset c) cs k u → ShownIn cs k u
@@ -221,7 +222,7 @@ quiet-offer c epoch s cs k e u n =
     }
 
 -- all that a frame shows is brought
-holding-stored : (call : Call) (cs : List Call) (k : ℕ) (b : Book) → 1 ≤ k → k ≤ slots → isNoChannel (channelOf call) ≡ false → Full b
+holding-stored : (call : Call) (cs : List Call) (k : ℕ) (b : Book) → 1 ≤ k → k ≤ slots → isLetIn call ≡ true → Full b
     → Holding (ShownIn cs k) (inSlot b k)
     → Holding (ShownIn (call ∷ cs) k) (inSlot (brought b (showsOf (heldAfter (itself call ∷ callsOn (channelOf call) cs)))) k)
 holding-stored call cs k b least most e full h =
@@ -264,14 +265,14 @@ book-quiet call cs st next e q h =
     }
 
 -- an offer
-module _ (c epoch : ℕ) (s : List ℕ) (cs : List Call) (st : Station) (run : Runs cs st) (h : BookHolds cs st) (e : isNoChannel c ≡ false) where
+module _ (c epoch : ℕ) (s : List ℕ) (cs : List Call) (st : Station) (run : Runs cs st) (h : BookHolds cs st) (e : isServed c ≡ true) where
   held : frameOf (rowAt st c) ≡ heldAfter (callsOn c cs)
-  held = held-is (callsOn c cs) (rowAt st c) (in-step cs st run .run c e)
+  held = held-is (callsOn c cs) (rowAt st c) (in-step cs st run .run c (served-below c e))
 
   held-next : frameOf (offeredRow (rowAt st c) epoch s) ≡ heldAfter (OfferIt epoch s ∷ callsOn c cs)
   unfolding heldAfter
   held-next =
-      frame-after (rowAt st c) epoch s (runs-long (callsOn c cs) (rowAt st c) (in-step cs st run .run c e)) ∙ ap (λ (f : Frame). frameAfter f epoch s) held
+      frame-after (rowAt st c) epoch s (runs-long (callsOn c cs) (rowAt st c) (in-step cs st run .run c (served-below c e))) ∙ ap (λ (f : Frame). frameAfter f epoch s) held
 
   -- all that its frame then shows is brought
   stored-holds : (next : Station) → next .book ≡ brought (st .book) (showsOf (frameOf (offeredRow (rowAt st c) epoch s))) → BookHolds (Offer c epoch s ∷ cs) next
@@ -294,20 +295,20 @@ module _ (c epoch : ℕ) (s : List ℕ) (cs : List Call) (st : Station) (run : R
 
 step-book : (c epoch : ℕ) (s : List ℕ) (cs : List Call) (st : Station) (r : Stepped) → Runs cs st → BookHolds cs st → OffersTo st c epoch s r
     → BookHolds (Offer c epoch s ∷ cs) (r .station)
-step-book c epoch s cs st r run h o = by (isNoChannel c) refl
+step-book c epoch s cs st r run h o = by (isServed c) refl
   where
-    by : (t : Bool) → isNoChannel c ≡ t → BookHolds (Offer c epoch s ∷ cs) (r .station)
-    by true e =
+    by : (t : Bool) → isServed c ≡ t → BookHolds (Offer c epoch s ∷ cs) (r .station)
+    by false e =
         book-quiet (Offer c epoch s) cs st (r .station) (ap (λ (x : Station). x .book) (o .station ∙ after-none st c epoch s e))
         (λ k. quiet-none (Offer c epoch s) cs k e) h
-    by false e = offer-holds c epoch s cs st run h e (r .station) (ap (λ (x : Station). x .book) (o .station ∙ after-some st c epoch s e))
+    by true e = offer-holds c epoch s cs st run h e (r .station) (ap (λ (x : Station). x .book) (o .station ∙ after-some st c epoch s e))
 
 step-empty : (c : ℕ) (cs : List Call) (st : Station) (r : Emptied) → BookHolds cs st → Resets st c r → BookHolds (Reset c ∷ cs) (r .station)
-step-empty c cs st r h o = by (isNoChannel c) refl
+step-empty c cs st r h o = by (isServed c) refl
   where
-    by : (t : Bool) → isNoChannel c ≡ t → BookHolds (Reset c ∷ cs) (r .station)
-    by true e = book-quiet (Reset c) cs st (r .station) (ap (λ (x : Station). x .book) (o .station ∙ reset-none st c e)) (λ k. quiet-reset c cs k) h
-    by false e = book-quiet (Reset c) cs st (r .station) (ap (λ (x : Station). x .book) (o .station ∙ reset-some st c e)) (λ k. quiet-reset c cs k) h
+    by : (t : Bool) → isServed c ≡ t → BookHolds (Reset c ∷ cs) (r .station)
+    by false e = book-quiet (Reset c) cs st (r .station) (ap (λ (x : Station). x .book) (o .station ∙ reset-none st c e)) (λ k. quiet-reset c cs k) h
+    by true e = book-quiet (Reset c) cs st (r .station) (ap (λ (x : Station). x .book) (o .station ∙ reset-some st c e)) (λ k. quiet-reset c cs k) h
 
 book-holds : (cs : List Call) (st : Station) → Runs cs st → BookHolds cs st
 book-holds cs st fresh = fresh-holds

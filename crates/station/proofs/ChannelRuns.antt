@@ -1,16 +1,16 @@
 -- Each row of a station is what the calls on its own channel leave (in-step): the other channels' calls, and those on no channel, do not touch it. So
 -- all that is proved of a channel holds of each row of a station.
 -- Assumes nothing.
-use mathlib.Core.Path.{_≡_, refl, sym, ap, subst, _∙_}
-use mathlib.Core.Bool.{Bool, true, false, true≢false}
+use mathlib.Core.Path.{_≡_, refl, sym, ap, ap₂, subst, _∙_}
+use mathlib.Core.Bool.{Bool, true, false, _&&_, true≢false}
 use mathlib.Core.List.{List, [], _∷_}
-use Prim.Native.Nat.{ℕ, _≤_, _<_}
+use Prim.Native.Nat.{ℕ, _<_}
 use native.Mathlib.Omega.{arith}
-use borrow.Author.Tests.{eqb-true, eqb-false, ltb-false}
+use borrow.Author.Tests.{eq-eqb, ne-eqb, eqb-true}
 use lib.Dec.{eqb}
 use lib.ListN.{length, getD, set, length-set, length-replicate, getD-replicate}
 use lib.Seq.{getD-set-same, getD-set-other}
-use Rattle.strings.specs.Numbers.{test, answerOf}
+use Rattle.strings.proofs.Below.{both}
 use Rattle.book.specs.declared.Book.{Book}
 use Rattle.summary.specs.declared.Summary.{Summary}
 use Rattle.channel.specs.declared.Row.{Row}
@@ -20,14 +20,11 @@ use Rattle.channel.specs.History.{Call as OnChannel, saidTo, Runs as ChannelRun
 use Rattle.station.specs.declared.Station.{Station}
 use Rattle.station.specs.declared.Stepped.{Stepped}
 use Rattle.station.specs.declared.Emptied.{Emptied}
-use Rattle.station.specs.Station.{channels, lastChannel, freshStation, noRow, rowAt, heldAt, isNoChannel, toldIn, bookAfter, summaryAfter, stationAfter, stationReset, OffersTo, Resets}
-use Rattle.station.specs.History.{Call, Offer, Reset, channelOf, itself, callsOn, Runs, fresh, offering, resetting}
+use Rattle.station.specs.Station.{channels, freshStation, noRow, rowAt, heldAt, isServed, toldIn, bookAfter, summaryAfter, stationAfter, stationReset, OffersTo, Resets}
+use Rattle.station.specs.History.{Call, Offer, Reset, channelOf, itself, isLetIn, isOn, callsOn, Runs, fresh, offering, resetting}
+use Rattle.station.proofs.Served.{open-says, served-below}
 
 -- ---- one row
--- a channel's label is below the number of channels
-pub served-below : (c : ℕ) → isNoChannel c ≡ false → c < channels
-served-below c e = let h : c ≤ lastChannel = ltb-false lastChannel c e in omega arith
-
 module _ (rows : List Row) (long : length rows ≡ channels) (c k : ℕ) (row : Row) (served : c < channels) where
   -- the row that is put back, and the others
   put-same : getD (set rows c row) c noRow ≡ row
@@ -38,11 +35,11 @@ module _ (rows : List Row) (long : length rows ≡ channels) (c k : ℕ) (row : 
 
 -- ---- the station after a call: as it was, or with the channel's row put back
 module _ (st : Station) (c : ℕ) where
-  pub after-none : (epoch : ℕ) (s : List ℕ) → isNoChannel c ≡ true → stationAfter st c epoch s ≡ st
+  pub after-none : (epoch : ℕ) (s : List ℕ) → isServed c ≡ false → stationAfter st c epoch s ≡ st
   unfolding stationAfter
   after-none epoch s e = rw e
 
-  pub after-some : (epoch : ℕ) (s : List ℕ) → isNoChannel c ≡ false
+  pub after-some : (epoch : ℕ) (s : List ℕ) → isServed c ≡ true
       → stationAfter st c epoch s ≡ record {
         rows = set (st .rows) c (offeredRow (rowAt st c) epoch s);
         book = bookAfter (st .book) (rowAt st c) epoch s;
@@ -51,72 +48,83 @@ module _ (st : Station) (c : ℕ) where
   unfolding stationAfter
   after-some epoch s e = rw e
 
-  pub reset-none : isNoChannel c ≡ true → stationReset st c ≡ st
+  pub reset-none : isServed c ≡ false → stationReset st c ≡ st
   unfolding stationReset
   reset-none e = rw e
 
-  pub reset-some : isNoChannel c ≡ false → stationReset st c ≡ record { rows = set (st .rows) c emptyRow; book = st .book; summary = st .summary }
+  pub reset-some : isServed c ≡ true → stationReset st c ≡ record { rows = set (st .rows) c emptyRow; book = st .book; summary = st .summary }
   unfolding stationReset
   reset-some e = rw e
 
+-- ---- a call on a channel is let in and has its label
+module _ (call : Call) (c : ℕ) where
+  pub on-both : isOn c call ≡ true → (isLetIn call ≡ true) × (channelOf call ≡ c)
+  on-both e = let p = both (isLetIn call) (eqb (channelOf call) c) e in (p .0, eqb-true (channelOf call) c (p .1))
+
+  pub not-let-in : isLetIn call ≡ false → isOn c call ≡ false
+  not-let-in e = ap (λ (t : Bool). t && eqb (channelOf call) c) e
+
+  pub on-another : (channelOf call ≡ c → ⊥) → isOn c call ≡ false
+  on-another n = by (isLetIn call) (eqb (channelOf call) c) (ne-eqb (channelOf call) c n)
+    where
+      by : (t u : Bool) → u ≡ false → (t && u) ≡ false
+      by true u q = q
+      by false u q = refl
+
+pub on-own : (call : Call) → isLetIn call ≡ true → isOn (channelOf call) call ≡ true
+on-own call e = ap₂ (λ (t u : Bool). t && u) e (eq-eqb (channelOf call) (channelOf call) refl)
+
 -- the calls on a channel, one call more
-pub calls-same : (c : ℕ) (call : Call) (cs : List Call) → eqb (channelOf call) c ≡ true → callsOn c (call ∷ cs) ≡ itself call ∷ callsOn c cs
+pub calls-same : (c : ℕ) (call : Call) (cs : List Call) → isOn c call ≡ true → callsOn c (call ∷ cs) ≡ itself call ∷ callsOn c cs
 unfolding callsOn
 calls-same c call cs e = rw e
 
-pub calls-other : (c : ℕ) (call : Call) (cs : List Call) → eqb (channelOf call) c ≡ false → callsOn c (call ∷ cs) ≡ callsOn c cs
+pub calls-other : (c : ℕ) (call : Call) (cs : List Call) → isOn c call ≡ false → callsOn c (call ∷ cs) ≡ callsOn c cs
 unfolding callsOn
 calls-other c call cs e = rw e
 
 -- ---- the rows, each a channel's run
 pub record InStep (cs : List Call) (st : Station) : Type 0 where
   pub long : length (st .rows) ≡ channels
-  pub run : (c : ℕ) → isNoChannel c ≡ false → ChannelRuns (callsOn c cs) (rowAt st c)
+  pub run : (c : ℕ) → c < channels → ChannelRuns (callsOn c cs) (rowAt st c)
 
--- a call on no channel leaves all as it was
-on-none : (call : Call) (cs : List Call) (st : Station) → isNoChannel (channelOf call) ≡ true → InStep cs st → InStep (call ∷ cs) st
+-- a call that is not let in leaves all as it was
+on-none : (call : Call) (cs : List Call) (st : Station) → isLetIn call ≡ false → InStep cs st → InStep (call ∷ cs) st
 on-none call cs st e i =
     record {
       long = i .long;
-      run = λ c f. subst (λ (l : List OnChannel). ChannelRuns l (rowAt st c)) (sym (calls-other c call cs (apart c f))) (i .run c f);
+      run = λ c h. subst (λ (l : List OnChannel). ChannelRuns l (rowAt st c)) (sym (calls-other c call cs (not-let-in call c e))) (i .run c h);
     }
-  where
-    apart : (c : ℕ) → isNoChannel c ≡ false → eqb (channelOf call) c ≡ false
-    apart c f = by (eqb (channelOf call) c) refl
-      where
-        by : (t : Bool) → eqb (channelOf call) c ≡ t → t ≡ false
-        by true q = absurd (true≢false (sym e ∙ ap isNoChannel (eqb-true (channelOf call) c q) ∙ f))
-        by false q = refl
 
 -- a call on a channel that leaves its row as the channel's own call does
-on-one : (call : Call) (cs : List Call) (st : Station) (row : Row) (book : Book) (summary : Summary) → isNoChannel (channelOf call) ≡ false → InStep cs st
-    → ChannelRuns (itself call ∷ callsOn (channelOf call) cs) row
+on-one : (call : Call) (cs : List Call) (st : Station) (row : Row) (book : Book) (summary : Summary) → isLetIn call ≡ true → channelOf call < channels
+    → InStep cs st → ChannelRuns (itself call ∷ callsOn (channelOf call) cs) row
     → InStep (call ∷ cs) (record { rows = set (st .rows) (channelOf call) row; book = book; summary = summary })
-on-one call cs st row book summary e i here =
+on-one call cs st row book summary e there i here =
     record {
       long = length-set (st .rows) (channelOf call) row ∙ i .long;
-      run = λ c f. by c f (eqb (channelOf call) c) refl;
+      run = λ c h. by c h (isOn c call) refl;
     }
   where
-    by : (c : ℕ) → isNoChannel c ≡ false → (t : Bool) → eqb (channelOf call) c ≡ t → ChannelRuns (callsOn c (call ∷ cs)) (getD (set (st .rows) (channelOf call) row) c noRow)
-    by c f true q =
-        let w : channelOf call ≡ c = eqb-true (channelOf call) c q in
+    apart : (c : ℕ) → isOn c call ≡ false → c ≡ channelOf call → ⊥
+    apart c q w = true≢false (sym (on-own call e) ∙ ap (λ (k : ℕ). isOn k call) (sym w) ∙ q)
+
+    by : (c : ℕ) → c < channels → (t : Bool) → isOn c call ≡ t → ChannelRuns (callsOn c (call ∷ cs)) (getD (set (st .rows) (channelOf call) row) c noRow)
+    by c h true q =
         subst (λ (l : List OnChannel). ChannelRuns l (getD (set (st .rows) (channelOf call) row) c noRow)) (sym (calls-same c call cs q))
-        (subst (λ (k : ℕ). ChannelRuns (itself call ∷ callsOn k cs) (getD (set (st .rows) (channelOf call) row) k noRow)) w
-        (subst (ChannelRuns (itself call ∷ callsOn (channelOf call) cs))
-        (sym (put-same (st .rows) (i .long) (channelOf call) c row (served-below (channelOf call) e))) here))
-    by c f false q =
+        (subst (λ (k : ℕ). ChannelRuns (itself call ∷ callsOn k cs) (getD (set (st .rows) (channelOf call) row) k noRow)) (on-both call c q .1)
+        (subst (ChannelRuns (itself call ∷ callsOn (channelOf call) cs)) (sym (put-same (st .rows) (i .long) (channelOf call) c row there)) here))
+    by c h false q =
         subst (λ (l : List OnChannel). ChannelRuns l (getD (set (st .rows) (channelOf call) row) c noRow)) (sym (calls-other c call cs q))
-        (subst (ChannelRuns (callsOn c cs))
-        (sym (put-other (st .rows) (i .long) (channelOf call) c row (served-below (channelOf call) e) (λ w. eqb-false (channelOf call) c q (sym w)))) (i .run c f))
+        (subst (ChannelRuns (callsOn c cs)) (sym (put-other (st .rows) (i .long) (channelOf call) c row there (apart c q))) (i .run c h))
 
 -- an offer's answer is its own row's
-pub own-answer : (st : Station) (c epoch : ℕ) (s : List ℕ) (r : Stepped) → isNoChannel c ≡ false → OffersTo st c epoch s r
+pub own-answer : (st : Station) (c epoch : ℕ) (s : List ℕ) (r : Stepped) → isServed c ≡ true → OffersTo st c epoch s r
     → answerPaper (r .answer) ≡ saidTo (heldAt st c) epoch s
-own-answer st c epoch s r e o = o .answer ∙ ap (λ (t : Bool). answerOf (test 1 t ∷ offerTests (heldAt st c) epoch s) (toldIn st c epoch s)) e
+own-answer st c epoch s r e o = o .answer ∙ open-says c (offerTests (heldAt st c) epoch s) (toldIn st c epoch s) e
 
 -- what a station's offer says of its row's
-pub row-offers : (st : Station) (c epoch : ℕ) (s : List ℕ) (r : Stepped) → isNoChannel c ≡ false → OffersTo st c epoch s r
+pub row-offers : (st : Station) (c epoch : ℕ) (s : List ℕ) (r : Stepped) → isServed c ≡ true → OffersTo st c epoch s r
     → Offers (rowAt st c) epoch s (record { row = offeredRow (rowAt st c) epoch s; answer = r .answer })
 unfolding Offers
 row-offers st c epoch s r e o = record { answer = own-answer st c epoch s r e o; left = refl }
@@ -126,9 +134,9 @@ fresh-long : length (freshStation .rows) ≡ channels
 unfolding freshStation
 fresh-long = length-replicate channels emptyRow
 
-fresh-at : (c : ℕ) → isNoChannel c ≡ false → rowAt freshStation c ≡ emptyRow
+fresh-at : (c : ℕ) → c < channels → rowAt freshStation c ≡ emptyRow
 unfolding freshStation
-fresh-at c e = getD-replicate channels c emptyRow noRow (served-below c e)
+fresh-at c h = getD-replicate channels c emptyRow noRow h
 
 step-fresh : InStep [] freshStation
 unfolding callsOn
@@ -137,24 +145,24 @@ step-fresh = record { long = fresh-long; run = λ c e. subst (ChannelRuns []) (s
 -- an offer and a reset
 step-offer : (c epoch : ℕ) (s : List ℕ) (cs : List Call) (st : Station) (r : Stepped) → InStep cs st → OffersTo st c epoch s r
     → InStep (Offer c epoch s ∷ cs) (r .station)
-step-offer c epoch s cs st r i o = by (isNoChannel c) refl
+step-offer c epoch s cs st r i o = by (isServed c) refl
   where
-    by : (t : Bool) → isNoChannel c ≡ t → InStep (Offer c epoch s ∷ cs) (r .station)
-    by true e = subst (InStep (Offer c epoch s ∷ cs)) (sym (o .station ∙ after-none st c epoch s e)) (on-none (Offer c epoch s) cs st e i)
-    by false e =
+    by : (t : Bool) → isServed c ≡ t → InStep (Offer c epoch s ∷ cs) (r .station)
+    by false e = subst (InStep (Offer c epoch s ∷ cs)) (sym (o .station ∙ after-none st c epoch s e)) (on-none (Offer c epoch s) cs st e i)
+    by true e =
         subst (InStep (Offer c epoch s ∷ cs)) (sym (o .station ∙ after-some st c epoch s e))
         (on-one (Offer c epoch s) cs st (offeredRow (rowAt st c) epoch s) (bookAfter (st .book) (rowAt st c) epoch s)
-        (summaryAfter (st .summary) (st .book) (rowAt st c) epoch s) e i
-        (offering-it epoch s (callsOn c cs) (rowAt st c) (record { row = offeredRow (rowAt st c) epoch s; answer = r .answer }) (i .run c e) (row-offers st c epoch s r e o)))
+        (summaryAfter (st .summary) (st .book) (rowAt st c) epoch s) e (served-below c e) i
+        (offering-it epoch s (callsOn c cs) (rowAt st c) (record { row = offeredRow (rowAt st c) epoch s; answer = r .answer }) (i .run c (served-below c e)) (row-offers st c epoch s r e o)))
 
 step-reset : (c : ℕ) (cs : List Call) (st : Station) (r : Emptied) → InStep cs st → Resets st c r → InStep (Reset c ∷ cs) (r .station)
-step-reset c cs st r i o = by (isNoChannel c) refl
+step-reset c cs st r i o = by (isServed c) refl
   where
-    by : (t : Bool) → isNoChannel c ≡ t → InStep (Reset c ∷ cs) (r .station)
-    by true e = subst (InStep (Reset c ∷ cs)) (sym (o .station ∙ reset-none st c e)) (on-none (Reset c) cs st e i)
-    by false e =
+    by : (t : Bool) → isServed c ≡ t → InStep (Reset c ∷ cs) (r .station)
+    by false e = subst (InStep (Reset c ∷ cs)) (sym (o .station ∙ reset-none st c e)) (on-none (Reset c) cs st e i)
+    by true e =
         subst (InStep (Reset c ∷ cs)) (sym (o .station ∙ reset-some st c e))
-        (on-one (Reset c) cs st emptyRow (st .book) (st .summary) e i (resetting-it (callsOn c cs) (rowAt st c) (i .run c e)))
+        (on-one (Reset c) cs st emptyRow (st .book) (st .summary) e (served-below c e) i (resetting-it (callsOn c cs) (rowAt st c) (i .run c (served-below c e))))
 
 -- EACH ROW IS A CHANNEL'S RUN
 pub in-step : (cs : List Call) (st : Station) → Runs cs st → InStep cs st

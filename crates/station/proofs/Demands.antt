@@ -40,7 +40,7 @@ use Rattle.station.specs.declared.Station.{Station}
 use Rattle.station.specs.declared.Stepped.{Stepped}
 use Rattle.station.specs.declared.Emptied.{Emptied}
 use Rattle.station.specs.declared.Health.{Health}
-use Rattle.station.specs.Station.{freshStation, noRow, rowAt, isNoChannel, bookAfter, corrected, stationAfter, stationReset, OffersTo, Resets}
+use Rattle.station.specs.Station.{freshStation, noRow, rowAt, isServed, bookAfter, corrected, stationAfter, stationReset, OffersTo, Resets}
 use Rattle.station.specs.History.{Call, callsOn, Runs, fresh, offering, resetting, stationOf}
 use Rattle.station.specs.declared.Health.the-variants.{Unknown, Usable, NotUsable}
 use Rattle.station.specs.Queries.{keptAt, allCounts, isSlot, isEmpty, topOfB, satelliteOf, lOf, modelOf, lCounted, statusOf, judged, isKnown, statusIn, healthBy}
@@ -50,7 +50,8 @@ use Rattle.station.specs.Demand2.{Counted}
 use Rattle.station.specs.Demand3.{Answered, SameShown, SameBooks, BookRule}
 use Rattle.station.specs.Health.{KnownIn, UsableIn, HealthIn, DifferInBit65, ReservedBit, healthBefore, UsedUnfit, RulesDiffer}
 use Rattle.station.specs.Demands.{AllDemands}
-use Rattle.station.proofs.ChannelRuns.{in-step, served-below, after-none, after-some, reset-none, reset-some, row-offers}
+use Rattle.station.proofs.Served.{served-below}
+use Rattle.station.proofs.ChannelRuns.{in-step, after-none, after-some, reset-none, reset-some, row-offers}
 use Rattle.station.proofs.EveryHistory.{every-history}
 use Rattle.station.proofs.EveryCall.{station-answers, strings-answer, station-numbers, string-numbers, no-output-byte}
 use Rattle.station.proofs.Gathered.{checking, again, encoding, relative, by-name, ranges, round-trips}
@@ -65,11 +66,11 @@ use Rattle.station.proofs.Tallied.{tallied}
 use Rattle.station.proofs.Relock.{relocked}
 
 -- ---- DEMAND 1
-pub channel-leaves : (st : Station) (c : ℕ) → isNoChannel c ≡ true → ChannelLeaves st c
+pub channel-leaves : (st : Station) (c : ℕ) → isServed c ≡ false → ChannelLeaves st c
 channel-leaves st c e =
     record { offers = λ epoch s r o. o .station ∙ after-none st c epoch s e; resets = λ r o. o .station ∙ reset-none st c e }
 
-pub refusal-leaves : (st : Station) (c epoch : ℕ) (s : List ℕ) (r : Stepped) → WellMade st → isNoChannel c ≡ false
+pub refusal-leaves : (st : Station) (c epoch : ℕ) (s : List ℕ) (r : Stepped) → WellMade st → isServed c ≡ true
     → OffersTo st c epoch s r → isTaken (r .answer) ≡ false → RefusalLeaves st c (numberSaid (r .answer)) (r .station)
 refusal-leaves st c epoch s r made e o n =
     let row = rowAt st c in
@@ -89,9 +90,9 @@ pub answered : (cs : List Call) (st : Station) → Runs cs st → Answered cs st
 answered cs st run = record { offers = offer-said cs st run; resets = reset-said cs st }
 
 -- ---- DEMAND 2
-pub counted : (cs : List Call) (st : Station) → Runs cs st → (c : ℕ) → isNoChannel c ≡ false → Counted cs st c
+pub counted : (cs : List Call) (st : Station) → Runs cs st → (c : ℕ) → isServed c ≡ true → Counted cs st c
 counted cs st run c e =
-    let i = in-step cs st run .run c e in
+    let i = in-step cs st run .run c (served-below c e) in
     let t = tallies-are (callsOn c cs) (rowAt st c) i in
     record {
       frame = held-is (callsOn c cs) (rowAt st c) i;
@@ -105,7 +106,7 @@ counted cs st run c e =
     }
 
 -- of every station
-pub taken-counts : (st : Station) (c epoch : ℕ) (s : List ℕ) (r : Stepped) → WellMade st → isNoChannel c ≡ false → OffersTo st c epoch s r
+pub taken-counts : (st : Station) (c epoch : ℕ) (s : List ℕ) (r : Stepped) → WellMade st → isServed c ≡ true → OffersTo st c epoch s r
     → isTaken (r .answer) ≡ true → TakenCounted (r .answer) (rowAt st c .tallies) (rowAt (r .station) c .tallies)
 taken-counts st c epoch s r made e o n =
     let row = rowAt st c in
@@ -114,7 +115,7 @@ taken-counts st c epoch s r made e o n =
     (sym (ap (λ (x : Station). rowAt x c) (o .station ∙ after-some st c epoch s e) ∙ getD-set-same (st .rows) c next noRow (omega (arith, served-below c e, made .rows))))
     (taken-counted row epoch s (record { row = next; answer = r .answer }) (row-offers st c epoch s r e o) n)
 
-pub reset-counts : (st : Station) (c : ℕ) (r : Emptied) → WellMade st → isNoChannel c ≡ false → Resets st c r → allCounts (rowAt (r .station) c .tallies) ≡ replicate 14 0
+pub reset-counts : (st : Station) (c : ℕ) (r : Emptied) → WellMade st → isServed c ≡ true → Resets st c r → allCounts (rowAt (r .station) c .tallies) ≡ replicate 14 0
 unfolding emptyRow
 reset-counts st c r made e o =
     ap (λ (x : Station). allCounts (rowAt x c .tallies)) (o .station ∙ reset-some st c e)
@@ -172,9 +173,9 @@ not-usable b l c = by (eqb b 0 && (eqb l 0 && eqb c 1))
 abbrev judgement : Immediate → Book → Health
 judgement i b = judged (topOfB i) (lCounted (modelOf i) (lOf i)) (statusIn i b)
 
-module _ (cs : List Call) (st : Station) (run : Runs cs st) (c : ℕ) (e : isNoChannel c ≡ false) where
+module _ (cs : List Call) (st : Station) (run : Runs cs st) (c : ℕ) (e : isServed c ≡ true) where
   kept-is : recordIn (keptAt st c) ≡ recordAfter (callsOn c cs)
-  kept-is = record-is (callsOn c cs) (rowAt st c) (in-step cs st run .run c e)
+  kept-is = record-is (callsOn c cs) (rowAt st c) (in-step cs st run .run c (served-below c e))
 
   -- a record, and an entry for its n, in the station: so the calls give them
   known-there : hasRecord (keptAt st c) ≡ true → isSlot (satelliteOf (keptAt st c)) ≡ true → isEmpty (st .book) (satelliteOf (keptAt st c)) ≡ false → KnownIn cs c
@@ -369,7 +370,7 @@ demands =
       by-name = by-name;
       ranges = ranges;
       round-trips = round-trips;
-      tallies = λ all st run c e. tallied all st run c e (counted (callsOf all) st (runs-of all st run) c e);
+      tallies = λ all st run c e. tallied all st run c (counted (callsOf all) st (runs-of all st run) c e);
       counts = counted;
       taken-counts = taken-counts;
       reset-counts = reset-counts;

@@ -6,7 +6,6 @@ use mathlib.Core.Bool.{Bool, true, false, true≢false}
 use mathlib.Core.List.{List, [], _∷_}
 use mathlib.Core.Logic.{_⊎_, inl, inr, ⊎-elim}
 use Prim.Native.Nat.{ℕ}
-use borrow.Author.Tests.{le-ltb}
 use Rattle.strings.specs.Number.{numberOf, stringBytes}
 use Rattle.strings.specs.Numbers.{firstOf, placeOf, answerOf}
 use Rattle.strings.specs.Calls.{writtenPaper}
@@ -15,12 +14,13 @@ use Rattle.relative.specs.Relative.{inverse}
 use Rattle.relative.specs.Polarity.{polarityOf}
 use Rattle.hearing.specs.Hears.{wholeOf, verdictIn}
 use Rattle.channel.specs.Frame.{newsOf}
-use Rattle.channel.specs.Offers.{answerPaper}
+use Rattle.channel.specs.Offers.{answerPaper, offerTests}
 use Rattle.channel.proofs.EitherWay.{Turned, inverse-turned, other-way, polarity-in}
 use Rattle.station.specs.declared.Station.{Station}
 use Rattle.station.specs.declared.Stepped.{Stepped}
 use Rattle.station.specs.declared.Emptied.{Emptied}
-use Rattle.station.specs.Station.{lastChannel, heldAt, stationTests, stationAfter, OffersTo, Resets}
+use Rattle.station.specs.Station.{heldAt, stationTests, toldIn, stationAfter, OffersTo, Resets}
+use Rattle.station.proofs.Served.{open-says}
 use Rattle.station.specs.History.{Call, Offer, Reset, channelOf}
 use Rattle.station.specs.Said.{Said, said, none, offers, resets}
 use Rattle.station.specs.EitherWay.{AlikeStepped, EitherWay, InverseOffered, ButPolarity, AlikeRuns, EveryHistoryAlike}
@@ -49,7 +49,7 @@ pub either-way : (st : Station) (c epoch : ℕ) → EitherWay st c epoch
 either-way st c epoch =
     record {
       alike = λ x r q h o p. turned-way st c epoch (stringBytes x) (stringBytes (inverse x)) (inverse-turned x h) r q o p;
-      other-shape = λ s r l m o. o .answer ∙ rw (le-ltb lastChannel c l, m);
+      other-shape = λ s r l m o. o .answer ∙ open-says c (offerTests (heldAt st c) epoch s) (toldIn st c epoch s) l ∙ rw m;
     }
 
 -- ---- one call after the other

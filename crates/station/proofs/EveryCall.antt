@@ -54,7 +54,7 @@ use Rattle.station.specs.declared.TalliesFound.{TalliesFound}
 use Rattle.station.specs.declared.TalliesFound.the-variants.{Found as FoundTallies, Refused as NoTallies}
 use Rattle.station.specs.declared.HealthFound.{HealthFound}
 use Rattle.station.specs.declared.HealthFound.the-variants.{Found as FoundHealth, Refused as NoHealth}
-use Rattle.station.specs.Station.{rowAt, isNoChannel, stationAfter, OffersTo, stationReset, Resets}
+use Rattle.station.specs.Station.{rowAt, gateTests, stationAfter, OffersTo, stationReset, Resets}
 use Rattle.station.specs.Queries.{keptAt, recordTests, FindsRecord, entryTests, threeNumbers, FindsEntry, allCounts, FindsTallies, FindsSummary, healthNumber, healthBy, FindsHealth}
 use Rattle.station.specs.Demand1.{OneAnswer, StationAnswers, StringsAnswer, StationNumbers, StringNumbers, NoOutputByte}
 use Rattle.station.proofs.Found.{one-record, no-record, one-entry, no-entry}
@@ -103,7 +103,7 @@ module _ (st : Station) where
   tallies-one : (c : ℕ) → OneAnswer TalliesFound (FindsTallies st c)
   unfolding FindsTallies
   tallies-one c =
-      let ts = test 1 (isNoChannel c) ∷ [] in
+      let ts = gateTests c in
       let t = rowAt st c .tallies in
       ⊎-elim
       (λ (z : firstOf ts ≡ 0). one TalliesFound (FindsTallies st c) (tallies-once st c) (FoundTallies t) (taken-says ts (allCounts t) z))
@@ -117,7 +117,7 @@ module _ (st : Station) where
   health-one : (c : ℕ) → OneAnswer HealthFound (FindsHealth st c)
   unfolding FindsHealth
   health-one c =
-      let ts = test 1 (isNoChannel c) ∷ [] in
+      let ts = gateTests c in
       let h = healthBy (keptAt st c) (st .book) in
       ⊎-elim
       (λ (z : firstOf ts ≡ 0). one HealthFound (FindsHealth st c) (health-once st c) (FoundHealth h) (taken-says ts (healthNumber h ∷ []) z))

@@ -2,17 +2,14 @@
 -- histories.
 -- Assumes nothing.
 use mathlib.Core.Path.{_≡_, refl, sym, ap, _∙_}
-use mathlib.Core.Bool.{Bool, true, false}
 use mathlib.Core.List.{List, [], _∷_, _++_}
 use mathlib.Core.Logic.{⊎-elim}
 use Prim.Native.Nat.{ℕ}
 use lib.Dec.{T}
-use Rattle.strings.specs.Pick.{pick}
-use Rattle.strings.specs.declared.Refusal.the-variants.{Channel}
 use Rattle.strings.specs.declared.Verdict.{Verdict}
 use Rattle.strings.specs.declared.Written.{Written}
 use Rattle.strings.specs.declared.Written.the-variants.{Done, Refused as NotWritten}
-use Rattle.strings.specs.Numbers.{Test, test, firstOf, answerOf}
+use Rattle.strings.specs.Numbers.{Test, firstOf, answerOf}
 use Rattle.strings.specs.Calls.{writtenPaper, soundTests}
 use Rattle.words.specs.Calls.{numberIn}
 use Rattle.strings.specs.Number.{numberOf}
@@ -26,7 +23,7 @@ use Rattle.hearing.specs.Hears.{wholeOf, verdictIn}
 use Rattle.channel.specs.Offers.{answerPaper, toldAs}
 use Rattle.channel.proofs.EitherWay.{polarity-in}
 use Rattle.station.specs.declared.Station.{Station}
-use Rattle.station.specs.Station.{heldAt, isNoChannel, stationTests, toldIn, stationAfter, OffersTo, stationReset, Resets}
+use Rattle.station.specs.Station.{heldAt, gateTests, stationTests, toldIn, stationAfter, OffersTo, stationReset, Resets}
 use Rattle.station.specs.History.{Call, Offer, Reset, Runs, fresh, offering, resetting, stationOf}
 use Rattle.station.proofs.Refusals.{named, Fitting, settles, taken-says}
 
@@ -52,16 +49,16 @@ pub offer-answers : (st : Station) (c epoch : ℕ) (s : List ℕ)
     → OffersTo st c epoch s (record { station = stationAfter st c epoch s; answer = some-answer st c epoch s .answer })
 offer-answers st c epoch s = record { answer = some-answer st c epoch s .is; station = refl }
 
+written-by : (ts : List Test) → T (named ts) → (w : Written) × (writtenPaper w ≡ answerOf ts [])
+written-by ts a =
+    ⊎-elim (λ (z : firstOf ts ≡ 0). (Done, taken-says ts [] z)) (λ (f : Fitting ts). (NotWritten (f .refusal), f .says [])) (settles ts a)
+
 pub reset-answer : ℕ → Written
-reset-answer c = pick (isNoChannel c) (NotWritten Channel) Done
+reset-answer c = written-by (gateTests c) tt .0
 
 pub reset-answers : (st : Station) (c : ℕ) → Resets st c (record { station = stationReset st c; answer = reset-answer c })
 unfolding reset-answer
-reset-answers st c = record { answer = by (isNoChannel c); station = refl }
-  where
-    by : (t : Bool) → writtenPaper (pick t (NotWritten Channel) Done) ≡ answerOf (test 1 t ∷ []) []
-    by true = refl
-    by false = refl
+reset-answers st c = record { answer = written-by (gateTests c) tt .1; station = refl }
 
 -- EVERY HISTORY HAS ITS RUN
 pub every-history : (cs : List Call) → Runs cs (stationOf cs)

@@ -5,8 +5,6 @@ use mathlib.Core.Path.{_≡_, refl, sym, ap, ap₂, subst, _∙_}
 use mathlib.Core.Bool.{Bool, true, false}
 use mathlib.Core.List.{List, [], _∷_, _++_}
 use Prim.Native.Nat.{ℕ}
-use borrow.Author.Tests.{eqb-true}
-use lib.Dec.{eqb}
 use Rattle.strings.specs.Pick.{pick}
 use Rattle.strings.specs.Calls.{writtenPaper}
 use Rattle.channel.specs.Offers.{answerPaper}
@@ -14,10 +12,11 @@ use Rattle.channel.specs.History.{Call as OnChannel}
 use Rattle.station.specs.declared.Station.{Station}
 use Rattle.station.specs.declared.Stepped.{Stepped}
 use Rattle.station.specs.declared.Emptied.{Emptied}
-use Rattle.station.specs.Station.{freshStation, isNoChannel, stationAfter, stationReset}
-use Rattle.station.specs.History.{Call, Offer, Reset, channelOf, itself, callsOn, saidOn, saidAfter, Runs, fresh, offering, resetting, stationOf}
+use Rattle.station.specs.Station.{freshStation, stationAfter, stationReset}
+use Rattle.station.specs.History.{Call, Offer, Reset, channelOf, itself, isLetIn, shutSaid, isOn, callsOn, saidOn, saidAfter, Runs, fresh, offering, resetting, stationOf}
 use Rattle.station.specs.Said.{Said, said, RunsFrom, none, offers, resets, callsOf, Ran, answersOn}
 use Rattle.station.specs.Demand3.{Exchanged, SameCalls, Reordered}
+use Rattle.station.proofs.ChannelRuns.{on-both}
 use Rattle.station.proofs.EveryHistory.{some-answer, offer-answers, reset-answer, reset-answers, every-history}
 use Rattle.station.proofs.Reorder.{offer-said, reset-said, said-same, same-later, not-x, not-y, reorder}
 
@@ -133,22 +132,22 @@ saidAll : List OnChannel → List (List ℕ)
 saidAll [] = []
 saidAll (call ∷ l) = saidOn call l ∷ saidAll l
 
-answers-are : (all : List Said) → AllTold all → (c : ℕ) → isNoChannel c ≡ false → answersOn c all ≡ saidAll (callsOn c (callsOf all))
+answers-are : (all : List Said) → AllTold all → (c : ℕ) → answersOn c all ≡ saidAll (callsOn c (callsOf all))
 unfolding saidAll answersOn callsOn saidAfter
-answers-are [] t c e = refl
-answers-are (x ∷ before) t c e = by (eqb (channelOf (x .call)) c) refl (answers-are before (t .1) c e)
+answers-are [] t c = refl
+answers-are (x ∷ before) t c = by (isOn c (x .call)) refl (answers-are before (t .1) c)
   where
     cs : List Call
     cs = callsOf before
 
-    own : channelOf (x .call) ≡ c → x .answer ≡ saidOn (itself (x .call)) (callsOn c cs)
-    own q =
-        t .0 ∙ ap (λ (k : ℕ). pick (isNoChannel k) (1 ∷ []) (saidOn (itself (x .call)) (callsOn k cs))) q
-        ∙ ap (λ (b : Bool). pick b (1 ∷ []) (saidOn (itself (x .call)) (callsOn c cs))) e
+    own : isLetIn (x .call) ≡ true → channelOf (x .call) ≡ c → x .answer ≡ saidOn (itself (x .call)) (callsOn c cs)
+    own e q =
+        t .0 ∙ ap (λ (b : Bool). pick b (saidOn (itself (x .call)) (callsOn (channelOf (x .call)) cs)) (shutSaid (x .call))) e
+        ∙ ap (λ (k : ℕ). saidOn (itself (x .call)) (callsOn k cs)) q
 
-    by : (b : Bool) → eqb (channelOf (x .call)) c ≡ b → answersOn c before ≡ saidAll (callsOn c cs)
+    by : (b : Bool) → isOn c (x .call) ≡ b → answersOn c before ≡ saidAll (callsOn c cs)
         → pick b (x .answer ∷ answersOn c before) (answersOn c before) ≡ saidAll (pick b (itself (x .call) ∷ callsOn c cs) (callsOn c cs))
-    by true q ih = ap₂ (λ (a : List ℕ) (l : List (List ℕ)). a ∷ l) (own (eqb-true (channelOf (x .call)) c q)) ih
+    by true q ih = let p = on-both (x .call) c q in ap₂ (λ (a : List ℕ) (l : List (List ℕ)). a ∷ l) (own (p .0) (p .1)) ih
     by false q ih = ih
 
 pub reordered : (all other : List Said) (st st′ : Station) → RunsFrom freshStation all st → RunsFrom freshStation other st′
@@ -156,5 +155,5 @@ pub reordered : (all other : List Said) (st st′ : Station) → RunsFrom freshS
 reordered all other st st′ run run′ same =
     record {
       station = reorder (callsOf all) (callsOf other) st st′ (runs-of all st run) (runs-of other st′ run′) same;
-      answers = λ c e. answers-are all (all-told all st run) c e ∙ ap saidAll (same c e) ∙ sym (answers-are other (all-told other st′ run′) c e);
+      answers = λ c e. answers-are all (all-told all st run) c ∙ ap saidAll (same c e) ∙ sym (answers-are other (all-told other st′ run′) c);
     }

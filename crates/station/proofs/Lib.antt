@@ -1,5 +1,8 @@
 mod Found
+pub mod Served
 pub mod AfterOffer
+pub mod AfterReset
+mod Asked
 pub mod Status
 pub mod QueriesOnce
 pub mod OnceOnly

@@ -2,10 +2,10 @@
 -- first to fit (offers-to-exactly, resets-exactly).
 -- Assumes nothing.
 use mathlib.Core.Path.{_≡_, refl, sym, ap₂, _∙_}
-use mathlib.Core.List.{List, [], _∷_}
+use mathlib.Core.List.{List, []}
 use Prim.Native.Nat.{ℕ}
 use Rattle.strings.specs.declared.Written.{Written}
-use Rattle.strings.specs.Numbers.{test, firstOf, leftBy, Exactly}
+use Rattle.strings.specs.Numbers.{firstOf, leftBy, Exactly}
 use Rattle.strings.specs.Calls.{writtenPaper, soundTests}
 use Rattle.strings.proofs.Answer.{written-same, exactly}
 use Rattle.channel.specs.declared.Answer.{Answer}
@@ -14,7 +14,7 @@ use Rattle.channel.proofs.Answers.{answer-same}
 use Rattle.station.specs.declared.Station.{Station}
 use Rattle.station.specs.declared.Stepped.{Stepped}
 use Rattle.station.specs.declared.Emptied.{Emptied}
-use Rattle.station.specs.Station.{isNoChannel, stationTests, OffersTo, Resets}
+use Rattle.station.specs.Station.{gateTests, stationTests, OffersTo, Resets}
 
 -- NO SECOND ANSWER FITS, and no second station
 pub offers-to-once : (st : Station) (c epoch : ℕ) (s : List ℕ) (r q : Stepped) → OffersTo st c epoch s r → OffersTo st c epoch s q → r ≡ q
@@ -34,5 +34,5 @@ unfolding soundTests
 offers-to-exactly st c epoch s r a =
     exactly tt (record { answer = a .answer; output = refl {a = leftBy (firstOf (stationTests st c epoch s)) [] []} })
 
-pub resets-exactly : (st : Station) (c : ℕ) (r : Emptied) → Resets st c r → Exactly (test 1 (isNoChannel c) ∷ []) (writtenPaper (r .answer))
-resets-exactly st c r a = exactly tt (record { answer = a .answer; output = refl {a = leftBy (firstOf (test 1 (isNoChannel c) ∷ [])) [] []} })
+pub resets-exactly : (st : Station) (c : ℕ) (r : Emptied) → Resets st c r → Exactly (gateTests c) (writtenPaper (r .answer))
+resets-exactly st c r a = exactly tt (record { answer = a .answer; output = refl {a = leftBy (firstOf (gateTests c)) [] []} })

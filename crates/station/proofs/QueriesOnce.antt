@@ -7,7 +7,7 @@ use Prim.Native.Nat.{ℕ}
 use lib.Dec.{eqb}
 use lib.ListN.{getD}
 use Rattle.strings.specs.Pick.{pick}
-use Rattle.strings.specs.Numbers.{test, firstOf, leftBy, Exactly}
+use Rattle.strings.specs.Numbers.{firstOf, leftBy, Exactly}
 use Rattle.strings.proofs.Answer.{refusal-same, not-taken, exactly}
 use Rattle.tallies.specs.declared.Tallies.{Tallies}
 use Rattle.station.specs.declared.Station.{Station}
@@ -21,7 +21,7 @@ use Rattle.station.specs.declared.TalliesFound.{TalliesFound}
 use Rattle.station.specs.declared.TalliesFound.the-variants.{Found as FoundTallies, Refused as NoTallies}
 use Rattle.station.specs.declared.HealthFound.{HealthFound}
 use Rattle.station.specs.declared.HealthFound.the-variants.{Found as FoundHealth, Refused as NoHealth}
-use Rattle.station.specs.Station.{isNoChannel}
+use Rattle.station.specs.Station.{gateTests}
 use Rattle.station.specs.Queries.{recordTests, recordPaper, FindsRecord, entryTests, entryPaper, FindsEntry, allCounts, talliesPaper, FindsTallies, healthNumber, healthPaper, FindsHealth}
 
 -- ---- the immediate record
@@ -85,9 +85,9 @@ unfolding FindsTallies
 tallies-once st c r q a b = tallies-same r q (a ∙ sym b)
 
 -- "The first that fits is given, and given only then"
-pub tallies-exactly : (st : Station) (c : ℕ) (r : TalliesFound) → FindsTallies st c r → Exactly (test 1 (isNoChannel c) ∷ []) (talliesPaper r)
+pub tallies-exactly : (st : Station) (c : ℕ) (r : TalliesFound) → FindsTallies st c r → Exactly (gateTests c) (talliesPaper r)
 unfolding FindsTallies
-tallies-exactly st c r a = exactly tt (record { answer = a; output = refl {a = leftBy (firstOf (test 1 (isNoChannel c) ∷ [])) [] []} })
+tallies-exactly st c r a = exactly tt (record { answer = a; output = refl {a = leftBy (firstOf (gateTests c)) [] []} })
 
 -- ---- health
 -- the health of a number
@@ -113,6 +113,6 @@ unfolding FindsHealth
 health-once st c r q a b = health-same r q (a ∙ sym b)
 
 -- "The first that fits is given, and given only then"
-pub health-exactly : (st : Station) (c : ℕ) (r : HealthFound) → FindsHealth st c r → Exactly (test 1 (isNoChannel c) ∷ []) (healthPaper r)
+pub health-exactly : (st : Station) (c : ℕ) (r : HealthFound) → FindsHealth st c r → Exactly (gateTests c) (healthPaper r)
 unfolding FindsHealth
-health-exactly st c r a = exactly tt (record { answer = a; output = refl {a = leftBy (firstOf (test 1 (isNoChannel c) ∷ [])) [] []} })
+health-exactly st c r a = exactly tt (record { answer = a; output = refl {a = leftBy (firstOf (gateTests c)) [] []} })

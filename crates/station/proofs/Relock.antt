@@ -24,17 +24,18 @@ use Rattle.channel.proofs.Relock.{relock-row}
 use Rattle.station.specs.declared.Station.{Station}
 use Rattle.station.specs.declared.Stepped.{Stepped}
 use Rattle.station.specs.declared.Emptied.{Emptied}
-use Rattle.station.specs.Station.{channels, noRow, rowAt, heldAt, isNoChannel, toldIn, OffersTo, Resets}
+use Rattle.station.specs.Station.{channels, noRow, rowAt, heldAt, isServed, toldIn, OffersTo, Resets}
 use Rattle.station.specs.History.{Call, Offer, Reset, channelOf}
 use Rattle.station.specs.Said.{Said, said, RunsFrom, none, offers, resets, Among}
 use Rattle.station.specs.Demand1.{WellMade}
 use Rattle.station.specs.Relock.{offerTo, SaysTaken, GoodOf, Steady, Relocked}
-use Rattle.station.proofs.ChannelRuns.{served-below, after-none, after-some, reset-none, reset-some, own-answer, row-offers}
+use Rattle.station.proofs.Served.{served-below}
+use Rattle.station.proofs.ChannelRuns.{after-none, after-some, reset-none, reset-some, own-answer, row-offers}
 use Rattle.station.proofs.WellMade.{offer-made, reset-made}
 
 -- ---- a call touches its own channel's row
 module _ (st : Station) (c : ℕ) where
-  offer-own : (epoch : ℕ) (s : List ℕ) (r : Stepped) → length (st .rows) ≡ channels → isNoChannel c ≡ false → OffersTo st c epoch s r
+  offer-own : (epoch : ℕ) (s : List ℕ) (r : Stepped) → length (st .rows) ≡ channels → isServed c ≡ true → OffersTo st c epoch s r
       → rowAt (r .station) c ≡ offeredRow (rowAt st c) epoch s
   offer-own epoch s r long e o =
       ap (λ (x : Station). rowAt x c) (o .station ∙ after-some st c epoch s e)
@@ -42,19 +43,19 @@ module _ (st : Station) (c : ℕ) where
 
   -- and no other
   offer-other : (epoch : ℕ) (s : List ℕ) (r : Stepped) (k : ℕ) → (k ≡ c → ⊥) → OffersTo st c epoch s r → rowAt (r .station) k ≡ rowAt st k
-  offer-other epoch s r k n o = by (isNoChannel c) refl
+  offer-other epoch s r k n o = by (isServed c) refl
     where
-      by : (t : Bool) → isNoChannel c ≡ t → rowAt (r .station) k ≡ rowAt st k
-      by true e = ap (λ (x : Station). rowAt x k) (o .station ∙ after-none st c epoch s e)
-      by false e =
+      by : (t : Bool) → isServed c ≡ t → rowAt (r .station) k ≡ rowAt st k
+      by false e = ap (λ (x : Station). rowAt x k) (o .station ∙ after-none st c epoch s e)
+      by true e =
           ap (λ (x : Station). rowAt x k) (o .station ∙ after-some st c epoch s e) ∙ getD-set-other (st .rows) c k (offeredRow (rowAt st c) epoch s) noRow n
 
   reset-other : (r : Emptied) (k : ℕ) → (k ≡ c → ⊥) → Resets st c r → rowAt (r .station) k ≡ rowAt st k
-  reset-other r k n o = by (isNoChannel c) refl
+  reset-other r k n o = by (isServed c) refl
     where
-      by : (t : Bool) → isNoChannel c ≡ t → rowAt (r .station) k ≡ rowAt st k
-      by true e = ap (λ (x : Station). rowAt x k) (o .station ∙ reset-none st c e)
-      by false e = ap (λ (x : Station). rowAt x k) (o .station ∙ reset-some st c e) ∙ getD-set-other (st .rows) c k emptyRow noRow n
+      by : (t : Bool) → isServed c ≡ t → rowAt (r .station) k ≡ rowAt st k
+      by false e = ap (λ (x : Station). rowAt x k) (o .station ∙ reset-none st c e)
+      by true e = ap (λ (x : Station). rowAt x k) (o .station ∙ reset-some st c e) ∙ getD-set-other (st .rows) c k emptyRow noRow n
 
 -- ---- an answer begins with the number that says no, or with 0
 begins : (ts : List Test) (told : List ℕ) → getD (answerOf ts told) 0 1 ≡ firstOf ts
@@ -65,7 +66,7 @@ begins ts told = by (firstOf ts)
     by (suc k) = refl
 
 -- so it says that the string is taken exactly where no test fits
-says-first : (st : Station) (c : ℕ) (h : Heard) (r : Stepped) → isNoChannel c ≡ false → OffersTo st c (h .epoch) (h .bytes) r
+says-first : (st : Station) (c : ℕ) (h : Heard) (r : Stepped) → isServed c ≡ true → OffersTo st c (h .epoch) (h .bytes) r
     → getD (answerPaper (r .answer)) 0 1 ≡ firstOf (offerTests (heldAt st c) (h .epoch) (h .bytes))
 says-first st c h r e o =
     ap (λ (l : List ℕ). getD l 0 1) (own-answer st c (h .epoch) (h .bytes) r e o)
@@ -126,7 +127,7 @@ steady-before c f x before w =
     }
 
 -- ---- from any station that is well made, on a channel
-module _ (st : Station) (c f : ℕ) (served : isNoChannel c ≡ false) where
+module _ (st : Station) (c f : ℕ) (served : isServed c ≡ true) where
   -- what is known after calls of which these strings were offered to the channel
   record Since (hs : List Heard) (st′ : Station) : Type 0 where
     made : WellMade st′
@@ -155,7 +156,7 @@ module _ (st : Station) (c f : ℕ) (served : isNoChannel c ≡ false) where
         record {
           made = offer-made old c (h .epoch) (h .bytes) r (i .made) o;
           held = ap frameOf (offer-own old c (h .epoch) (h .bytes) r (i .made .rows) served o)
-              ∙ frame-after (rowAt old c) (h .epoch) (h .bytes) (i .made .strings c served) ∙ ap (λ (x : Frame). afterHeard x h) (i .held);
+              ∙ frame-after (rowAt old c) (h .epoch) (h .bytes) (i .made .strings c (served-below c served)) ∙ ap (λ (x : Frame). afterHeard x h) (i .held);
           nothing = ((λ t. w .nothing-else h answer (inl refl) (says t)), i .nothing);
           once = (
             (λ g s b. let v = came c f (numberHeard h) before b in w .once [] before h (v .string) answer (v .answer) refl (v .there) (g, s) (v .good) (v .number)),
@@ -228,7 +229,7 @@ module _ (st : Station) (c f : ℕ) (served : isNoChannel c ≡ false) where
         good-taken before old run (steady-before c f (said (Reset k) (writtenPaper (r .answer))) before w) h a n g) m
 
 -- RELOCK
-pub relocked : (st : Station) (c : ℕ) (taken : Heard) (r : Stepped) → WellMade st → isNoChannel c ≡ false
+pub relocked : (st : Station) (c : ℕ) (taken : Heard) (r : Stepped) → WellMade st → isServed c ≡ true
     → OffersTo st c (taken .epoch) (taken .bytes) r → isTaken (r .answer) ≡ true
     → (f : ℕ) → FirstOf15 (rowAt (r .station) c .start) f → Relocked c f taken (r .station)
 relocked st c taken r made e o t f b =
@@ -238,7 +239,7 @@ relocked st c taken r made e o t f b =
     (λ (x : Row). (g : ℕ) → FirstOf15 (x .start) g
     → (g ≤ taken .epoch + 29) × ((hs : List Heard) → NothingElse (frameOf x) g hs → Once g hs → GoodTaken (frameOf x) g hs))
     (sym (offer-own st c (taken .epoch) (taken .bytes) r (made .rows) e o))
-    (relock-row row taken (record { row = next; answer = r .answer }) (made .strings c e) (row-offers st c (taken .epoch) (taken .bytes) r e o) t) f b
+    (relock-row row taken (record { row = next; answer = r .answer }) (made .strings c (served-below c e)) (row-offers st c (taken .epoch) (taken .bytes) r e o) t) f b
     in
     record {
       in-time = by-row .0;

@@ -6,8 +6,6 @@ use mathlib.Core.Bool.{Bool, true, false}
 use mathlib.Core.List.{List, [], _∷_, _++_}
 use Prim.Native.Nat.{ℕ, suc, _+_, _-_, _≤_}
 use native.Mathlib.Omega.{arith}
-use borrow.Author.Tests.{ne-eqb, le-ltb, eqb-true}
-use lib.Dec.{eqb}
 use lib.ListN.{getD}
 use lib.Seq.{ext-getD}
 use Rattle.strings.specs.Pick.{pick}
@@ -20,16 +18,17 @@ use Rattle.summary.specs.Walk.{walkOf}
 use Rattle.channel.specs.declared.Row.{Row}
 use Rattle.channel.specs.Frame.{Frame}
 use Rattle.channel.specs.Row.{emptyRow}
-use Rattle.channel.specs.Offers.{answerPaper, offeredRow}
+use Rattle.channel.specs.Offers.{answerPaper, offerTests, offeredRow}
 use Rattle.channel.specs.History.{Call as OnChannel, Offer as OfferIt, Reset as ResetIt, heldAfter, saidTo, Runs as ChannelRuns, fresh as fresh-row, offering as offering-it, resetting as resetting-it}
 use Rattle.channel.proofs.HeldFrame.{held-is, offered-is}
 use Rattle.station.specs.declared.Station.{Station}
 use Rattle.station.specs.declared.Stepped.{Stepped}
 use Rattle.station.specs.declared.Emptied.{Emptied}
-use Rattle.station.specs.Station.{lastChannel, noRow, rowAt, isNoChannel, OffersTo, Resets}
-use Rattle.station.specs.History.{Call, Offer, Reset, channelOf, itself, callsOn, saidOn, saidAfter, Part, ShownIn, Runs}
+use Rattle.station.specs.Station.{noRow, rowAt, heldAt, isServed, shutSays, toldIn, OffersTo, Resets}
+use Rattle.station.specs.History.{Call, Offer, Reset, channelOf, itself, isLetIn, shutSaid, isOn, callsOn, saidOn, saidAfter, Part, ShownIn, Runs}
 use Rattle.station.specs.Demand3.{SameCalls}
-use Rattle.station.proofs.ChannelRuns.{in-step, calls-other, own-answer}
+use Rattle.station.proofs.Served.{open-says, shut-says, served-below, below-served}
+use Rattle.station.proofs.ChannelRuns.{in-step, on-both, on-another, calls-other, own-answer}
 use Rattle.station.proofs.Holding.{held-once}
 use Rattle.station.proofs.BookRule.{slot-holds, book-full}
 use Rattle.station.proofs.AfterOffer.{same-station}
@@ -93,15 +92,15 @@ module _ (cs ds : List Call) (st st′ : Station) (run : Runs cs st) (run′ : R
 
   -- that had the same calls on every channel
   module _ (same : SameCalls cs ds) where
-    same-row : (c : ℕ) → isNoChannel c ≡ false → rowAt st c ≡ rowAt st′ c
+    same-row : (c : ℕ) → isServed c ≡ true → rowAt st c ≡ rowAt st′ c
     same-row c e =
-        runs-once (callsOn c ds) (rowAt st c) (rowAt st′ c) (subst (λ (l : List OnChannel). ChannelRuns l (rowAt st c)) (same c e) (in-step cs st run .run c e))
-        (in-step ds st′ run′ .run c e)
+        runs-once (callsOn c ds) (rowAt st c) (rowAt st′ c) (subst (λ (l : List OnChannel). ChannelRuns l (rowAt st c)) (same c e) (in-step cs st run .run c (served-below c e)))
+        (in-step ds st′ run′ .run c (served-below c e))
 
     same-rows : st .rows ≡ st′ .rows
     same-rows =
         let l = in-step cs st run .long in
-        ext-getD noRow (st .rows) (st′ .rows) (l ∙ sym (in-step ds st′ run′ .long)) (λ c h. same-row c (le-ltb lastChannel c (omega (arith, l))))
+        ext-getD noRow (st .rows) (st′ .rows) (l ∙ sym (in-step ds st′ run′ .long)) (λ c h. same-row c (below-served c (omega (arith, l))))
 
     -- ARE THE SAME STATION: only each channel's own order counts
     pub reorder : st ≡ st′
@@ -113,37 +112,37 @@ module _ (cs ds : List Call) (st st′ : Station) (run : Runs cs st) (run′ : R
 -- it is told by the calls before it on its channel
 pub said-same : (cs ds : List Call) (call : Call) → callsOn (channelOf call) cs ≡ callsOn (channelOf call) ds → saidAfter cs call ≡ saidAfter ds call
 unfolding saidAfter
-said-same cs ds call e = ap (λ (l : List OnChannel). pick (isNoChannel (channelOf call)) (1 ∷ []) (saidOn (itself call) l)) e
+said-same cs ds call e = ap (λ (l : List OnChannel). pick (isLetIn call) (saidOn (itself call) l) (shutSaid call)) e
 
 pub offer-said : (cs : List Call) (st : Station) → Runs cs st → (c epoch : ℕ) (s : List ℕ) (r : Stepped) → OffersTo st c epoch s r
     → answerPaper (r .answer) ≡ saidAfter cs (Offer c epoch s)
 unfolding saidAfter
-offer-said cs st run c epoch s r o = by (isNoChannel c) refl
+offer-said cs st run c epoch s r o = by (isServed c) refl
   where
-    by : (t : Bool) → isNoChannel c ≡ t → answerPaper (r .answer) ≡ pick t (1 ∷ []) (saidTo (heldAfter (callsOn c cs)) epoch s)
-    by true e = rw e at (o .answer)
-    by false e =
-        own-answer st c epoch s r e o ∙ ap (λ (f : Frame). saidTo f epoch s) (held-is (callsOn c cs) (rowAt st c) (in-step cs st run .run c e))
+    by : (t : Bool) → isServed c ≡ t → answerPaper (r .answer) ≡ pick t (saidTo (heldAfter (callsOn c cs)) epoch s) (shutSays c)
+    by false e = o .answer ∙ shut-says c (offerTests (heldAt st c) epoch s) (toldIn st c epoch s) e
+    by true e =
+        own-answer st c epoch s r e o ∙ ap (λ (f : Frame). saidTo f epoch s) (held-is (callsOn c cs) (rowAt st c) (in-step cs st run .run c (served-below c e)))
 
 pub reset-said : (cs : List Call) (st : Station) (c : ℕ) (r : Emptied) → Resets st c r → writtenPaper (r .answer) ≡ saidAfter cs (Reset c)
 unfolding saidAfter
-reset-said cs st c r o = by (isNoChannel c) refl
+reset-said cs st c r o = by (isServed c) refl
   where
-    by : (t : Bool) → isNoChannel c ≡ t → writtenPaper (r .answer) ≡ pick t (1 ∷ []) (0 ∷ [])
-    by true e = rw e at (o .answer)
-    by false e = rw e at (o .answer)
+    by : (t : Bool) → isServed c ≡ t → writtenPaper (r .answer) ≡ pick t (0 ∷ []) (shutSays c)
+    by false e = o .answer
+    by true e = o .answer ∙ open-says c [] [] e
 
 -- ---- two neighbouring calls on different channels
 module _ (x y : Call) (differ : channelOf x ≡ channelOf y → ⊥) where
   -- exchanged, they leave each channel's calls as they were
   calls-exchanged : (cs : List Call) (c : ℕ) → callsOn c (x ∷ y ∷ cs) ≡ callsOn c (y ∷ x ∷ cs)
   unfolding callsOn
-  calls-exchanged cs c = by (eqb (channelOf x) c) (eqb (channelOf y) c) refl refl
+  calls-exchanged cs c = by (isOn c x) (isOn c y) refl refl
     where
-      by : (t u : Bool) → eqb (channelOf x) c ≡ t → eqb (channelOf y) c ≡ u
+      by : (t u : Bool) → isOn c x ≡ t → isOn c y ≡ u
           → pick t (itself x ∷ pick u (itself y ∷ callsOn c cs) (callsOn c cs)) (pick u (itself y ∷ callsOn c cs) (callsOn c cs))
           ≡ pick u (itself y ∷ pick t (itself x ∷ callsOn c cs) (callsOn c cs)) (pick t (itself x ∷ callsOn c cs) (callsOn c cs))
-      by true true e f = absurd (differ (eqb-true (channelOf x) c e ∙ sym (eqb-true (channelOf y) c f)))
+      by true true e f = absurd (differ (on-both x c e .1 ∙ sym (on-both y c f .1)))
       by true false e f = refl
       by false true e f = refl
       by false false e f = refl
@@ -153,11 +152,11 @@ module _ (x y : Call) (differ : channelOf x ≡ channelOf y → ⊥) where
   unfolding callsOn
   same-later [] cs c = calls-exchanged cs c
   same-later (z ∷ later) cs c =
-      ap (λ (l : List OnChannel). pick (eqb (channelOf z) c) (itself z ∷ l) l) (same-later later cs c)
+      ap (λ (l : List OnChannel). pick (isOn c z) (itself z ∷ l) l) (same-later later cs c)
 
   -- and neither is a call on the other's channel
   pub not-x : (cs : List Call) → callsOn (channelOf y) (x ∷ cs) ≡ callsOn (channelOf y) cs
-  not-x cs = calls-other (channelOf y) x cs (ne-eqb (channelOf x) (channelOf y) differ)
+  not-x cs = calls-other (channelOf y) x cs (on-another x (channelOf y) differ)
 
   pub not-y : (cs : List Call) → callsOn (channelOf x) (y ∷ cs) ≡ callsOn (channelOf x) cs
-  not-y cs = calls-other (channelOf x) y cs (ne-eqb (channelOf y) (channelOf x) (λ e. differ (sym e)))
+  not-y cs = calls-other (channelOf x) y cs (on-another y (channelOf x) (λ e. differ (sym e)))

@@ -43,8 +43,9 @@ use Rattle.shows.specs.Shows.{showsOf, brought, changes}
 use Rattle.station.specs.declared.Station.{Station}
 use Rattle.station.specs.declared.Stepped.{Stepped}
 use Rattle.station.specs.declared.TalliesFound.{TalliesFound}
-use Rattle.station.specs.Station.{channels, lastChannel, noRow, rowAt, heldAt, isNoChannel, toldIn, bookAfter, entryChanges, corrected, summaryAfter, stationAfter, OffersTo}
+use Rattle.station.specs.Station.{channels, noRow, rowAt, heldAt, isServed, toldIn, bookAfter, entryChanges, corrected, summaryAfter, stationAfter, OffersTo}
 use Rattle.station.specs.Queries.{allCounts, talliesPaper, FindsTallies}
+use Rattle.station.proofs.Served.{open-says, served-below}
 use Rattle.station.proofs.AfterOffer.{same-station}
 use Rattle.station.specs.Sent.{SentString, mOf, SentAs, SentWith, IsBit, Awaits, talliesAt, SameButVerdict, HeardAsSent}
 
@@ -114,16 +115,12 @@ not-four m = by (leb m 4) (eqb 1 m) (eqb 2 m) refl refl
     by true true false p q = refl
     by true true true p q = let x = eqb-true 1 m p in let y = eqb-true 2 m q in absurd (omega arith)
 
--- ---- the channels are served
-is-served : (c : ℕ) → c ≤ lastChannel → isNoChannel c ≡ false
-is-served c l = le-ltb lastChannel c l
-
 -- ---- DAMAGED, whatever the channel holds
-damaged : (st : Station) (c epoch k : ℕ) (s : List ℕ) (r : Stepped) → c ≤ lastChannel → k < 2 ^ 84 → (d : Damage) → ruling k ≡ Damaged d → SentAs k s
+damaged : (st : Station) (c epoch k : ℕ) (s : List ℕ) (r : Stepped) → isServed c ≡ true → k < 2 ^ 84 → (d : Damage) → ruling k ≡ Damaged d → SentAs k s
     → OffersTo st c epoch s r → answerPaper (r .answer) ≡ damageNumber d ∷ []
 damaged st c epoch k s r l h d q e o =
     let p = damaged-says (plainOf s) d (ap ruling (sent-plain k s h e) ∙ q) (placeTests (heldAt st c) epoch (wholeOf s)) in
-    o .answer ∙ rw (is-served c l, sent-shaped k s h e, p .0, p .1) (alone d)
+    o .answer ∙ open-says c (offerTests (heldAt st c) epoch s) (toldIn st c epoch s) l ∙ rw (sent-shaped k s h e, p .0, p .1) (alone d)
   where
     alone : (d : Damage) → saidBy (damageNumber d) [] (toldIn st c epoch s) ≡ damageNumber d ∷ []
     alone Unplaced = refl
@@ -155,7 +152,9 @@ module _ (st : Station) (c epoch n : ℕ) (a : Awaits st c epoch n) (idle : bitO
 
   -- taken, kept, and told with the first symbol
   taken : (r : Stepped) → OffersTo st c epoch s r → answerPaper (r .answer) ≡ 0 ∷ mOf n ∷ ((verdictPaper v ++ (1 ∷ [])) ++ (firstSymbol (numberOf s) ∷ []))
-  taken r o = o .answer ∙ rw (is-served c (a .served), passes .0, passes .1, w .rules, w .whole, not-zero, in-time, holds-none, not-four (mOf n))
+  taken r o =
+      o .answer ∙ open-says c (offerTests (heldAt st c) epoch s) (toldIn st c epoch s) (a .served)
+      ∙ rw (passes .0, passes .1, w .rules, w .whole, not-zero, in-time, holds-none, not-four (mOf n))
 
   -- the row and the book that it leaves
   clear : firstOf (offerTests (frameOf row) epoch s) ≡ 0
@@ -189,10 +188,10 @@ module _ (st : Station) (c epoch n : ℕ) (a : Awaits st c epoch n) (idle : bitO
       summary = corrected (changes (st .book) shown) (brought (st .book) shown) (st .summary);
     }
     unfolding stationAfter
-    station-left = o .station ∙ rw (is-served c (a .served)) (same-station _ _ (ap (set (st .rows) c) row-left) book-left summary-left)
+    station-left = o .station ∙ rw (a .served) (same-station _ _ (ap (set (st .rows) c) row-left) book-left summary-left)
 
     its-row : length (st .rows) ≡ channels → rowAt (r .station) c ≡ next
-    its-row long = ap (λ (x : Station). rowAt x c) station-left ∙ getD-set-same (st .rows) c next noRow (omega (arith, a .served))
+    its-row long = ap (λ (x : Station). rowAt x c) station-left ∙ getD-set-same (st .rows) c next noRow (omega (arith, served-below c (a .served)))
 
     other-row : (k : ℕ) → (k ≡ c → ⊥) → rowAt (r .station) k ≡ rowAt st k
     other-row k d = ap (λ (x : Station). rowAt x k) station-left ∙ getD-set-other (st .rows) c k next noRow d
@@ -202,7 +201,7 @@ module _ (st : Station) (c epoch n : ℕ) (a : Awaits st c epoch n) (idle : bitO
       → talliesPaper t ≡ 0 ∷ oneMore (talliesAt st c .offered) ∷ oneMoreIf (isClean (Taken v)) (talliesAt st c .clean)
       ∷ oneMoreIf (isRepaired (Taken v)) (talliesAt st c .repaired) ∷ talliesAt st c .refused ∷ map (causeOf (talliesAt st c)) causes
   unfolding FindsTallies counted takenRow causesAfter
-  told r t o long f = f ∙ rw (is-served c (a .served)) (ap (λ (z : Row). 0 ∷ allCounts (z .tallies)) (its-row r o long))
+  told r t o long f = f ∙ open-says c [] (allCounts (rowAt (r .station) c .tallies)) (a .served) ∙ ap (λ (z : Row). 0 ∷ allCounts (z .tallies)) (its-row r o long)
 
 -- ---- the string as it is and with bit i wrong leave one station, but for the verdict's tally
 same-left : (st : Station) (c epoch n : ℕ) → SentString n → (i : ℕ) (s t : List ℕ) (q r : Stepped) → length (st .rows) ≡ channels → Awaits st c epoch n

@@ -15,10 +15,11 @@ use Rattle.tallies.specs.Tallies.Outcome.{Refused, Taken}
 use Rattle.tallies.proofs.Whose.{each}
 use Rattle.channel.specs.History.{saidSince, countsAs}
 use Rattle.station.specs.declared.Station.{Station}
-use Rattle.station.specs.Station.{freshStation, isNoChannel}
-use Rattle.station.specs.History.{Call, Offer, Reset, itself, callsOn, saidOn, saidAfter}
+use Rattle.station.specs.Station.{freshStation}
+use Rattle.station.specs.History.{Call, Offer, Reset, itself, shutSaid, isOn, callsOn, saidOn, saidAfter}
 use Rattle.station.specs.Said.{Said, RunsFrom, callsOf}
 use Rattle.station.specs.Demand2.{sinceReset, answersSince, saysNo, saysNumber, saysClean, saysRepaired, count, Tallied, Counted}
+use Rattle.station.proofs.ChannelRuns.{on-both}
 use Rattle.station.proofs.Exchange.{AllTold, all-told}
 
 -- ---- what an answer says, and what it counts as
@@ -74,36 +75,37 @@ all-are [] = refl
 all-are (a ∷ l) = omega (arith, all-are l)
 
 -- ---- the answers since the reset are those that the calls on the channel determine
-since-is : (all : List Said) → AllTold all → (c : ℕ) → isNoChannel c ≡ false → answersSince c all ≡ saidSince (callsOn c (callsOf all))
+since-is : (all : List Said) → AllTold all → (c : ℕ) → answersSince c all ≡ saidSince (callsOn c (callsOf all))
 unfolding answersSince saidSince callsOn saidAfter
-since-is [] t c e = refl
-since-is (x ∷ before) t c e = by (x .call) (x .answer) (t .0) (since-is before (t .1) c e)
+since-is [] t c = refl
+since-is (x ∷ before) t c = by (x .call) (x .answer) (t .0) (since-is before (t .1) c)
   where
     cs : List Call
     cs = callsOf before
 
     by : (call : Call) (a : List ℕ) → a ≡ saidAfter cs call → answersSince c before ≡ saidSince (callsOn c cs)
         → sinceReset c call a (answersSince c before) ≡ saidSince (callsOn c (call ∷ cs))
-    by (Offer k epoch s) a q ih = own (eqb k c) refl
+    by (Offer k epoch s) a q ih = own (isOn c (Offer k epoch s)) refl
       where
-        own : (b : Bool) → eqb k c ≡ b → pick b (a ∷ answersSince c before) (answersSince c before)
+        own : (b : Bool) → isOn c (Offer k epoch s) ≡ b → pick b (a ∷ answersSince c before) (answersSince c before)
             ≡ saidSince (pick b (itself (Offer k epoch s) ∷ callsOn c cs) (callsOn c cs))
         own true w =
             ap₂ (λ (x : List ℕ) (l : List (List ℕ)). x ∷ l)
-            (q ∙ ap (λ (j : ℕ). pick (isNoChannel j) (1 ∷ []) (saidOn (itself (Offer k epoch s)) (callsOn j cs))) (eqb-true k c w)
-            ∙ ap (λ (b : Bool). pick b (1 ∷ []) (saidOn (itself (Offer k epoch s)) (callsOn c cs))) e) ih
+            (let p = on-both (Offer k epoch s) c w in
+            q ∙ ap (λ (b : Bool). pick b (saidOn (itself (Offer k epoch s)) (callsOn k cs)) (shutSaid (Offer k epoch s))) (p .0)
+            ∙ ap (λ (j : ℕ). saidOn (itself (Offer k epoch s)) (callsOn j cs)) (p .1)) ih
         own false w = ih
-    by (Reset k) a q ih = own (eqb k c)
+    by (Reset k) a q ih = own (isOn c (Reset k))
       where
         own : (b : Bool) → pick b [] (answersSince c before) ≡ saidSince (pick b (itself (Reset k) ∷ callsOn c cs) (callsOn c cs))
         own true = refl
         own false = ih
 
 -- THE TALLIES ARE THE TRUE COUNTS
-pub tallied : (all : List Said) (st : Station) → RunsFrom freshStation all st → (c : ℕ) → isNoChannel c ≡ false → Counted (callsOf all) st c → Tallied all st c
-tallied all st run c e n =
+pub tallied : (all : List Said) (st : Station) → RunsFrom freshStation all st → (c : ℕ) → Counted (callsOf all) st c → Tallied all st c
+tallied all st run c n =
     let l = answersSince c all in
-    let q : map countsAs (saidSince (callsOn c (callsOf all))) ≡ map countsAs l = ap (map countsAs) (sym (since-is all (all-told all st run) c e)) in
+    let q : map countsAs (saidSince (callsOn c (callsOf all))) ≡ map countsAs l = ap (map countsAs) (sym (since-is all (all-told all st run) c)) in
     record {
       offered = n .offered ∙ ap (min 4294967295) (ap (howMany isOffer) q ∙ all-are l);
       clean = n .clean ∙ ap (min 4294967295) (ap (howMany isClean) q ∙ many-is isClean saysClean clean-says l);

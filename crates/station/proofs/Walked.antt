@@ -19,7 +19,7 @@ use Rattle.shows.proofs.Changes.{unchanged}
 use Rattle.station.specs.declared.Station.{Station}
 use Rattle.station.specs.declared.Stepped.{Stepped}
 use Rattle.station.specs.declared.Emptied.{Emptied}
-use Rattle.station.specs.Station.{freshStation, rowAt, isNoChannel, bookAfter, entryChanges, corrected, summaryAfter, OffersTo, Resets}
+use Rattle.station.specs.Station.{freshStation, rowAt, isServed, bookAfter, entryChanges, corrected, summaryAfter, OffersTo, Resets}
 use Rattle.station.specs.History.{Call, Runs, fresh, offering, resetting}
 use Rattle.station.proofs.ChannelRuns.{after-none, after-some, reset-none, reset-some}
 
@@ -48,18 +48,18 @@ still-walked b old row epoch s h = by (entryChanges b row epoch s) refl
     by false e = h ∙ ap (λ (x : Book). walkOf (x .entries)) (sym (book-stays b row epoch s e))
 
 pub offer-walked : (st : Station) (c epoch : ℕ) (s : List ℕ) (r : Stepped) → Walked st → OffersTo st c epoch s r → Walked (r .station)
-offer-walked st c epoch s r w o = by (isNoChannel c) refl
+offer-walked st c epoch s r w o = by (isServed c) refl
   where
-    by : (t : Bool) → isNoChannel c ≡ t → Walked (r .station)
-    by true e = subst Walked (sym (o .station ∙ after-none st c epoch s e)) w
-    by false e = subst Walked (sym (o .station ∙ after-some st c epoch s e)) (still-walked (st .book) (st .summary) (rowAt st c) epoch s w)
+    by : (t : Bool) → isServed c ≡ t → Walked (r .station)
+    by false e = subst Walked (sym (o .station ∙ after-none st c epoch s e)) w
+    by true e = subst Walked (sym (o .station ∙ after-some st c epoch s e)) (still-walked (st .book) (st .summary) (rowAt st c) epoch s w)
 
 pub reset-walked : (st : Station) (c : ℕ) (r : Emptied) → Walked st → Resets st c r → Walked (r .station)
-reset-walked st c r w o = by (isNoChannel c) refl
+reset-walked st c r w o = by (isServed c) refl
   where
-    by : (t : Bool) → isNoChannel c ≡ t → Walked (r .station)
-    by true e = subst Walked (sym (o .station ∙ reset-none st c e)) w
-    by false e = subst Walked (sym (o .station ∙ reset-some st c e)) w
+    by : (t : Bool) → isServed c ≡ t → Walked (r .station)
+    by false e = subst Walked (sym (o .station ∙ reset-none st c e)) w
+    by true e = subst Walked (sym (o .station ∙ reset-some st c e)) w
 
 -- THE SUMMARY IS THE WALK OF THE BOOK
 pub runs-walked : (cs : List Call) (st : Station) → Runs cs st → Walked st

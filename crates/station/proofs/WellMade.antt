@@ -3,7 +3,7 @@
 use mathlib.Core.Path.{_≡_, refl, sym, ap, subst, _∙_}
 use mathlib.Core.Bool.{Bool, true, false}
 use mathlib.Core.List.{List}
-use Prim.Native.Nat.{ℕ}
+use Prim.Native.Nat.{ℕ, _<_}
 use native.Mathlib.Omega.{arith}
 use borrow.Author.Tests.{eqb-true, eqb-false}
 use lib.Dec.{eqb}
@@ -21,10 +21,11 @@ use Rattle.channel.proofs.HeldFrame.{offered-long}
 use Rattle.station.specs.declared.Station.{Station}
 use Rattle.station.specs.declared.Stepped.{Stepped}
 use Rattle.station.specs.declared.Emptied.{Emptied}
-use Rattle.station.specs.Station.{channels, freshStation, noRow, rowAt, isNoChannel, bookAfter, summaryAfter, OffersTo, Resets}
+use Rattle.station.specs.Station.{channels, freshStation, noRow, rowAt, isServed, bookAfter, summaryAfter, OffersTo, Resets}
 use Rattle.station.specs.History.{Call, Runs, fresh, offering, resetting}
 use Rattle.station.specs.Demand1.{WellMade}
-use Rattle.station.proofs.ChannelRuns.{served-below, after-none, after-some, reset-none, reset-some}
+use Rattle.station.proofs.Served.{served-below}
+use Rattle.station.proofs.ChannelRuns.{after-none, after-some, reset-none, reset-some}
 use Rattle.station.proofs.Holding.{brought-full}
 
 -- A FRESH STATION IS WELL MADE, AND EVERY CALL LEAVES IT SO
@@ -33,43 +34,43 @@ unfolding freshStation emptyRow
 fresh-made =
     record {
       rows = length-replicate channels emptyRow;
-      strings = λ c e. ap (λ (x : Row). length (x .strings)) (getD-replicate channels c emptyRow noRow (served-below c e)) ∙ length-replicate {A = ℕ} 165 0;
+      strings = λ c e. ap (λ (x : Row). length (x .strings)) (getD-replicate channels c emptyRow noRow e) ∙ length-replicate {A = ℕ} 165 0;
       entries = empty-full;
     }
 
 -- one row put back, a book and a summary
-put-made : (st : Station) (c : ℕ) (row : Row) (b : Book) (z : Summary) → WellMade st → isNoChannel c ≡ false → length (row .strings) ≡ 165 → Full b
+put-made : (st : Station) (c : ℕ) (row : Row) (b : Book) (z : Summary) → WellMade st → c < channels → length (row .strings) ≡ 165 → Full b
     → WellMade (record { rows = set (st .rows) c row; book = b; summary = z })
-put-made st c row b z w e l f =
+put-made st c row b z w there l f =
     record { rows = length-set (st .rows) c row ∙ w .rows; strings = λ k d. by k d (eqb k c) refl; entries = f }
   where
-    by : (k : ℕ) → isNoChannel k ≡ false → (t : Bool) → eqb k c ≡ t → length (getD (set (st .rows) c row) k noRow .strings) ≡ 165
+    by : (k : ℕ) → k < channels → (t : Bool) → eqb k c ≡ t → length (getD (set (st .rows) c row) k noRow .strings) ≡ 165
     by k d true q =
-        rw (eqb-true k c q) (ap (λ (x : Row). length (x .strings)) (getD-set-same (st .rows) c row noRow (omega (arith, served-below c e, w .rows))) ∙ l)
+        rw (eqb-true k c q) (ap (λ (x : Row). length (x .strings)) (getD-set-same (st .rows) c row noRow (omega (arith, there, w .rows))) ∙ l)
     by k d false q = ap (λ (x : Row). length (x .strings)) (getD-set-other (st .rows) c k row noRow (eqb-false k c q)) ∙ w .strings k d
 
 pub offer-made : (st : Station) (c epoch : ℕ) (s : List ℕ) (r : Stepped) → WellMade st → OffersTo st c epoch s r → WellMade (r .station)
-offer-made st c epoch s r w o = by (isNoChannel c) refl
+offer-made st c epoch s r w o = by (isServed c) refl
   where
     book : (t : Bool) → Full (pick t (brought (st .book) (showsOf (frameOf (offeredRow (rowAt st c) epoch s)))) (st .book))
     book true = brought-full (showsOf (frameOf (offeredRow (rowAt st c) epoch s))) (st .book) (w .entries)
     book false = w .entries
 
-    by : (t : Bool) → isNoChannel c ≡ t → WellMade (r .station)
-    by true e = subst WellMade (sym (o .station ∙ after-none st c epoch s e)) w
-    by false e =
+    by : (t : Bool) → isServed c ≡ t → WellMade (r .station)
+    by false e = subst WellMade (sym (o .station ∙ after-none st c epoch s e)) w
+    by true e =
         subst WellMade (sym (o .station ∙ after-some st c epoch s e))
-        (put-made st c (offeredRow (rowAt st c) epoch s) (bookAfter (st .book) (rowAt st c) epoch s) (summaryAfter (st .summary) (st .book) (rowAt st c) epoch s) w e
-        (offered-long (rowAt st c) epoch s (w .strings c e))
+        (put-made st c (offeredRow (rowAt st c) epoch s) (bookAfter (st .book) (rowAt st c) epoch s) (summaryAfter (st .summary) (st .book) (rowAt st c) epoch s) w (served-below c e)
+        (offered-long (rowAt st c) epoch s (w .strings c (served-below c e)))
         (book (storesIt (frameOf (rowAt st c)) epoch s)))
 
 pub reset-made : (st : Station) (c : ℕ) (r : Emptied) → WellMade st → Resets st c r → WellMade (r .station)
 unfolding emptyRow
-reset-made st c r w o = by (isNoChannel c) refl
+reset-made st c r w o = by (isServed c) refl
   where
-    by : (t : Bool) → isNoChannel c ≡ t → WellMade (r .station)
-    by true e = subst WellMade (sym (o .station ∙ reset-none st c e)) w
-    by false e = subst WellMade (sym (o .station ∙ reset-some st c e)) (put-made st c emptyRow (st .book) (st .summary) w e (length-replicate {A = ℕ} 165 0) (w .entries))
+    by : (t : Bool) → isServed c ≡ t → WellMade (r .station)
+    by false e = subst WellMade (sym (o .station ∙ reset-none st c e)) w
+    by true e = subst WellMade (sym (o .station ∙ reset-some st c e)) (put-made st c emptyRow (st .book) (st .summary) w (served-below c e) (length-replicate {A = ℕ} 165 0) (w .entries))
 
 -- so is every station that calls leave
 pub runs-made : (cs : List Call) (st : Station) → Runs cs st → WellMade st

@@ -1,8 +1,7 @@
 -- The client's first demand: of every call, every input and any station.
 -- Assumes nothing.
-use Prim.Native.Nat.{ℕ}
-use mathlib.Core.Bool.{false}
-use mathlib.Core.List.{List, [], _∷_}
+use Prim.Native.Nat.{ℕ, _<_}
+use mathlib.Core.List.{List}
 use mathlib.Core.Path.{_≡_}
 use lib.ListN.{length}
 use Rattle.strings.specs.declared.Refusal.{Refusal}
@@ -10,7 +9,7 @@ use Rattle.strings.specs.declared.Checked.{Checked}
 use Rattle.strings.specs.declared.Checked.the-variants.{Refused}
 use Rattle.strings.specs.declared.Written.{Written}
 use Rattle.strings.specs.declared.Written.the-variants.{Refused as NotWritten}
-use Rattle.strings.specs.Numbers.{test, Exactly}
+use Rattle.strings.specs.Numbers.{Exactly}
 use Rattle.strings.specs.Calls.{writtenPaper, checkedPaper, checkTests, Checks}
 use Rattle.relative.specs.declared.Decoded.{Decoded}
 use Rattle.relative.specs.declared.Decoded.the-variants.{Refused as NotRead}
@@ -29,7 +28,7 @@ use Rattle.station.specs.declared.RecordFound.{RecordFound}
 use Rattle.station.specs.declared.EntryFound.{EntryFound}
 use Rattle.station.specs.declared.TalliesFound.{TalliesFound}
 use Rattle.station.specs.declared.HealthFound.{HealthFound}
-use Rattle.station.specs.Station.{channels, rowAt, isNoChannel, stationTests, OffersTo, Resets}
+use Rattle.station.specs.Station.{channels, rowAt, gateTests, stationTests, OffersTo, Resets}
 use Rattle.station.specs.Queries.{recordTests, recordPaper, FindsRecord, entryTests, entryPaper, FindsEntry, talliesPaper, FindsTallies, FindsSummary, healthPaper, FindsHealth}
 
 -- ---- "Every call answers, for every input and every station it is handed"
@@ -60,11 +59,11 @@ pub record StringsAnswer : Type 0 where
 -- ---- "Bad input is refused with the number in our paper": "The first that fits is given, and given only then"
 pub record StationNumbers (st : Station) : Type 0 where
   pub offer : (c epoch : ℕ) (s : List ℕ) (r : Stepped) → OffersTo st c epoch s r → Exactly (stationTests st c epoch s) (answerPaper (r .answer))
-  pub reset : (c : ℕ) (r : Emptied) → Resets st c r → Exactly (test 1 (isNoChannel c) ∷ []) (writtenPaper (r .answer))
+  pub reset : (c : ℕ) (r : Emptied) → Resets st c r → Exactly (gateTests c) (writtenPaper (r .answer))
   pub immediate-of : (c : ℕ) (r : RecordFound) → FindsRecord st c r → Exactly (recordTests st c) (recordPaper r)
   pub entry-of : (slot : ℕ) (r : EntryFound) → FindsEntry st slot r → Exactly (entryTests st slot) (entryPaper r)
-  pub tallies-of : (c : ℕ) (r : TalliesFound) → FindsTallies st c r → Exactly (test 1 (isNoChannel c) ∷ []) (talliesPaper r)
-  pub health-of : (c : ℕ) (r : HealthFound) → FindsHealth st c r → Exactly (test 1 (isNoChannel c) ∷ []) (healthPaper r)
+  pub tallies-of : (c : ℕ) (r : TalliesFound) → FindsTallies st c r → Exactly (gateTests c) (talliesPaper r)
+  pub health-of : (c : ℕ) (r : HealthFound) → FindsHealth st c r → Exactly (gateTests c) (healthPaper r)
 
 pub record StringNumbers : Type 0 where
   pub check : (s out : List ℕ) (r : Checked) (out′ : List ℕ) → Checks s out r out′ → Exactly (checkTests s out) (checkedPaper r)
@@ -78,7 +77,7 @@ pub record StringNumbers : Type 0 where
 -- what the types say of a station: a row of fifteen strings for each channel and an entry for each slot. "For every station" supposes no more
 pub record WellMade (st : Station) : Type 0 where
   pub rows : length (st .rows) ≡ channels
-  pub strings : (c : ℕ) → isNoChannel c ≡ false → length (rowAt st c .strings) ≡ 165
+  pub strings : (c : ℕ) → c < channels → length (rowAt st c .strings) ≡ 165
   pub entries : length (st .book .entries) ≡ slots
 
 pub record RefusalLeaves (st : Station) (c number : ℕ) (st′ : Station) : Type 0 where

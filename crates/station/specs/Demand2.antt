@@ -16,14 +16,14 @@ use Rattle.channel.specs.History.{heldAfter, outcomes, recordAfter}
 use Rattle.station.specs.declared.Station.{Station}
 use Rattle.station.specs.Station.{rowAt, heldAt}
 use Rattle.station.specs.Queries.{keptAt}
-use Rattle.station.specs.History.{Call, Offer, Reset, callsOn}
+use Rattle.station.specs.History.{Call, Offer, Reset, isOn, callsOn}
 use Rattle.station.specs.Said.{Said}
 
 -- ---- from the answers
 -- what the offers to a channel since its reset were answered, the latest first
 abbrev pub sinceReset : ℕ → Call → List ℕ → List (List ℕ) → List (List ℕ)
-sinceReset c (Offer k epoch s) answer before = pick (eqb k c) (answer ∷ before) before
-sinceReset c (Reset k) answer before = pick (eqb k c) [] before
+sinceReset c (Offer k epoch s) answer before = pick (isOn c (Offer k epoch s)) (answer ∷ before) before
+sinceReset c (Reset k) answer before = pick (isOn c (Reset k)) [] before
 
 unfoldable pub answersSince : ℕ → List Said → List (List ℕ)
 answersSince c [] = []

@@ -2,7 +2,7 @@
 -- are those that the calls gave (`Said`); frames and shown entries are those of `History`, of the calls alone, with channels as labels.
 -- Assumes nothing.
 use Prim.Native.Nat.{ℕ}
-use mathlib.Core.Bool.{false}
+use mathlib.Core.Bool.{true}
 use mathlib.Core.List.{List, _∷_, _++_}
 use mathlib.Core.Logic.{_↔_}
 use mathlib.Core.Path.{_≡_}
@@ -13,7 +13,7 @@ use Rattle.channel.specs.Offers.{answerPaper}
 use Rattle.station.specs.declared.Station.{Station}
 use Rattle.station.specs.declared.Stepped.{Stepped}
 use Rattle.station.specs.declared.Emptied.{Emptied}
-use Rattle.station.specs.Station.{freshStation, isNoChannel, OffersTo, Resets}
+use Rattle.station.specs.Station.{freshStation, isServed, OffersTo, Resets}
 use Rattle.station.specs.History.{Call, Offer, Reset, callsOn, saidAfter, ShownIn, Greatest, Runs}
 use Rattle.station.specs.Said.{Said, RunsFrom, callsOf, answersOn}
 
@@ -33,11 +33,11 @@ pub record Exchanged (later earlier : List Said) (x y : Said) (st : Station) : T
 
 -- ---- so any reordering that keeps each channel's own order leaves the same station, and the calls on each channel gave the same answers
 abbrev pub SameCalls : List Call → List Call → Type 0
-SameCalls cs ds = (c : ℕ) → isNoChannel c ≡ false → callsOn c cs ≡ callsOn c ds
+SameCalls cs ds = (c : ℕ) → isServed c ≡ true → callsOn c cs ≡ callsOn c ds
 
 pub record Reordered (all other : List Said) (st st′ : Station) : Type 0 where
   pub station : st ≡ st′
-  pub answers : (c : ℕ) → isNoChannel c ≡ false → answersOn c all ≡ answersOn c other
+  pub answers : (c : ℕ) → isServed c ≡ true → answersOn c all ≡ answersOn c other
 
 -- and two cards on one antenna, each with its own calls, hold the same book where they were shown the same entries
 abbrev pub SameShown : List Call → List Call → Type 0

@@ -17,7 +17,7 @@ use Rattle.channel.specs.Relock.{Heard, FirstOf15}
 use Rattle.station.specs.declared.Station.{Station}
 use Rattle.station.specs.declared.Stepped.{Stepped}
 use Rattle.station.specs.declared.Emptied.{Emptied}
-use Rattle.station.specs.Station.{freshStation, rowAt, isNoChannel, OffersTo, Resets}
+use Rattle.station.specs.Station.{freshStation, rowAt, isServed, OffersTo, Resets}
 use Rattle.station.specs.Queries.{keptAt, allCounts, healthBy}
 use Rattle.station.specs.History.{Call, channelOf, Runs, stationOf}
 use Rattle.station.specs.Said.{Said, RunsFrom, callsOf, Ran}
@@ -43,10 +43,10 @@ pub record AllDemands : Type 0 where
   -- where three numbers stand for DAMAGED: "What is refused stays as it was"
   pub damaged-exactly : (n : ℕ) → DamagedExactly n
   -- "a refused string changes nothing but its channel's tallies of strings offered and refused," and "its own cause's tally too"
-  pub refused : (st : Station) (c epoch : ℕ) (s : List ℕ) (r : Stepped) → WellMade st → isNoChannel c ≡ false → OffersTo st c epoch s r
+  pub refused : (st : Station) (c epoch : ℕ) (s : List ℕ) (r : Stepped) → WellMade st → isServed c ≡ true → OffersTo st c epoch s r
       → isTaken (r .answer) ≡ false → RefusalLeaves st c (numberSaid (r .answer)) (r .station)
   -- "CHANNEL changes nothing at all"
-  pub no-channel : (st : Station) (c : ℕ) → isNoChannel c ≡ true → ChannelLeaves st c
+  pub no-channel : (st : Station) (c : ℕ) → isServed c ≡ false → ChannelLeaves st c
   -- "and no output byte."
   pub no-output-byte : NoOutputByte
   -- ==== 2. "Strings are checked, repaired,"
@@ -67,12 +67,12 @@ pub record AllDemands : Type 0 where
   pub round-trips : RoundTrips
   -- "The four tallies are the true counts since the channel's reset", "32 bits wide and stay at 4,294,967,295"; and "one such tally for each refusal that
   -- an offer on a valid channel can get"
-  pub tallies : (all : List Said) (st : Station) → RunsFrom freshStation all st → (c : ℕ) → isNoChannel c ≡ false → Tallied all st c
-  pub counts : (cs : List Call) (st : Station) → Runs cs st → (c : ℕ) → isNoChannel c ≡ false → Counted cs st c
+  pub tallies : (all : List Said) (st : Station) → RunsFrom freshStation all st → (c : ℕ) → isServed c ≡ true → Tallied all st c
+  pub counts : (cs : List Call) (st : Station) → Runs cs st → (c : ℕ) → isServed c ≡ true → Counted cs st c
   -- of every station: a taken offer moves no cause, and a reset leaves all fourteen at 0
-  pub taken-counts : (st : Station) (c epoch : ℕ) (s : List ℕ) (r : Stepped) → WellMade st → isNoChannel c ≡ false → OffersTo st c epoch s r
+  pub taken-counts : (st : Station) (c epoch : ℕ) (s : List ℕ) (r : Stepped) → WellMade st → isServed c ≡ true → OffersTo st c epoch s r
       → isTaken (r .answer) ≡ true → TakenCounted (r .answer) (rowAt st c .tallies) (rowAt (r .station) c .tallies)
-  pub reset-counts : (st : Station) (c : ℕ) (r : Emptied) → WellMade st → isNoChannel c ≡ false → Resets st c r
+  pub reset-counts : (st : Station) (c : ℕ) (r : Emptied) → WellMade st → isServed c ≡ true → Resets st c r
       → allCounts (rowAt (r .station) c .tallies) ≡ replicate 14 0
   -- ==== 3. "Start with a fresh station and make any calls that offer a string to, or reset, one of channels 0 to 23."
   -- whatever the station and the calls, they can be made; a run with its answers is a run of its calls, which leave one station; it is well made; and
@@ -98,11 +98,11 @@ pub record AllDemands : Type 0 where
   pub summary : (cs : List Call) (st : Station) → Runs cs st → SummaryRule cs st
   -- ==== the paper: "After a string is taken at epoch e, frames at a steady 15-epoch beat are heard again"
   pub every-beat : EveryBeat
-  pub relock : (st : Station) (c : ℕ) (taken : Heard) (r : Stepped) → WellMade st → isNoChannel c ≡ false
+  pub relock : (st : Station) (c : ℕ) (taken : Heard) (r : Stepped) → WellMade st → isServed c ≡ true
       → OffersTo st c (taken .epoch) (taken .bytes) r → isTaken (r .answer) ≡ true
       → (f : ℕ) → FirstOf15 (rowAt (r .station) c .start) f → Relocked c f taken (r .station)
   -- "Without a record, or without a book entry for its n, a channel's satellite is unknown. Otherwise it is usable if .."
-  pub health : (cs : List Call) (st : Station) → Runs cs st → (c : ℕ) → isNoChannel c ≡ false → HealthIn cs c (healthBy (keptAt st c) (st .book))
+  pub health : (cs : List Call) (st : Station) → Runs cs st → (c : ℕ) → isServed c ≡ true → HealthIn cs c (healthBy (keptAt st c) (st .book))
   -- "With M = 00, bit 65 of string 3 is a reserved bit and plays no part in health"; with any other M "usable only if .. l of string 3 is 0"; and nothing
   -- else changed: of any kept record and any book
   pub reserved-bit : ReservedBit

@@ -1,7 +1,7 @@
 -- Whichever way up a string's symbols came: "Station contents, order of checks and the read bits do not depend on it. A string and its inverse now answer
 -- alike except in this field, and demand 2 is read so." The inverse is the string with all 85 symbols inverted, the padding not.
 -- Assumes nothing.
-use Prim.Native.Nat.{ℕ, _^_, _≤_, _<_}
+use Prim.Native.Nat.{ℕ, _^_, _<_}
 use mathlib.Core.Bool.{true}
 use mathlib.Core.List.{List, [], _∷_}
 use mathlib.Core.Logic.{_⊎_}
@@ -13,7 +13,7 @@ use Rattle.channel.specs.Offers.{answerPaper}
 use Rattle.channel.specs.Laws.{otherWay}
 use Rattle.station.specs.declared.Station.{Station}
 use Rattle.station.specs.declared.Stepped.{Stepped}
-use Rattle.station.specs.Station.{lastChannel, OffersTo}
+use Rattle.station.specs.Station.{isServed, OffersTo}
 use Rattle.station.specs.History.{Call, Offer}
 use Rattle.station.specs.Said.{Said, RunsFrom, callsOf}
 
@@ -30,7 +30,7 @@ pub record EitherWay (st : Station) (c epoch : ℕ) : Type 0 where
   pub alike : (x : ℕ) (r inverted : Stepped) → x < 2 ^ 85 → OffersTo st c epoch (stringBytes x) r → OffersTo st c epoch (stringBytes (inverse x)) inverted
       → AlikeStepped r inverted
   -- bytes of any other shape are SHAPE, whichever way up
-  pub other-shape : (s : List ℕ) (r : Stepped) → c ≤ lastChannel → misshapen s ≡ true → OffersTo st c epoch s r → answerPaper (r .answer) ≡ 2 ∷ []
+  pub other-shape : (s : List ℕ) (r : Stepped) → isServed c ≡ true → misshapen s ≡ true → OffersTo st c epoch s r → answerPaper (r .answer) ≡ 2 ∷ []
 
 -- ---- calls one after the other
 -- a call that offers a string, and the one that offers its inverse to the same channel at the same epoch

@@ -3,7 +3,7 @@
 -- any channel.
 -- Assumes nothing.
 use Prim.Native.Nat.{ℕ}
-use mathlib.Core.Bool.{true, false}
+use mathlib.Core.Bool.{Bool, true, false, _&&_}
 use mathlib.Core.List.{List, [], _∷_}
 use mathlib.Core.Path.{_≡_}
 use lib.Dec.{eqb}
@@ -15,7 +15,7 @@ use Rattle.channel.specs.History.{Call as OnChannel, Offer as OfferIt, Reset as
 use Rattle.station.specs.declared.Station.{Station}
 use Rattle.station.specs.declared.Stepped.{Stepped}
 use Rattle.station.specs.declared.Emptied.{Emptied}
-use Rattle.station.specs.Station.{freshStation, isNoChannel, stationAfter, OffersTo, stationReset, Resets}
+use Rattle.station.specs.Station.{freshStation, isServed, shutSays, stationAfter, OffersTo, stationReset, Resets}
 
 pub data Call : Type 0 where
   Offer : (channel epoch : ℕ) → (bytes : List ℕ) → Call
@@ -30,18 +30,28 @@ abbrev pub itself : Call → OnChannel
 itself (Offer c epoch s) = OfferIt epoch s
 itself (Reset c) = ResetIt
 
--- the calls on one channel
+-- whether it is let in, and what it is told where it is not
+abbrev pub isLetIn : Call → Bool
+isLetIn call = isServed (channelOf call)
+
+abbrev pub shutSaid : Call → List ℕ
+shutSaid call = shutSays (channelOf call)
+
+-- the calls on one channel: those that are served on it. A call that is not let in is on none
+abbrev pub isOn : ℕ → Call → Bool
+isOn c call = isLetIn call && eqb (channelOf call) c
+
 unfoldable pub callsOn : ℕ → List Call → List OnChannel
 callsOn c [] = []
-callsOn c (call ∷ cs) = pick (eqb (channelOf call) c) (itself call ∷ callsOn c cs) (callsOn c cs)
+callsOn c (call ∷ cs) = pick (isOn c call) (itself call ∷ callsOn c cs) (callsOn c cs)
 
--- ---- the answer to a call after others, in the paper's numbers: CHANNEL, or what the calls before on its channel determine
+-- ---- the answer to a call after others, in the paper's numbers: the gate's, or what the calls before on its channel determine
 abbrev pub saidOn : OnChannel → List OnChannel → List ℕ
 saidOn (OfferIt epoch s) before = saidTo (heldAfter before) epoch s
 saidOn ResetIt before = 0 ∷ []
 
 unfoldable pub saidAfter : List Call → Call → List ℕ
-saidAfter cs call = pick (isNoChannel (channelOf call)) (1 ∷ []) (saidOn (itself call) (callsOn (channelOf call) cs))
+saidAfter cs call = pick (isLetIn call) (saidOn (itself call) (callsOn (channelOf call) cs)) (shutSaid call)
 
 -- ---- what was shown
 -- the parts of a history up to each of its moments
@@ -56,7 +66,7 @@ pairs = 6 ∷ 8 ∷ 10 ∷ 12 ∷ 14 ∷ []
 -- an entry shown for a slot: at a moment, by a channel, as strings 5, p and p+1 of the one frame that this channel then held
 pub record ShownIn (cs : List Call) (slot : ℕ) (t : Three) : Type 0 where
   pub channel : ℕ
-  pub served : isNoChannel channel ≡ false
+  pub served : isServed channel ≡ true
   pub moment : List OnChannel
   pub within : Part moment (callsOn channel cs)
   pub pair : ℕ

@@ -2,9 +2,10 @@
 -- strings, words and days are those of the lower layers' tables.
 -- Assumes nothing.
 use Prim.Native.Nat.{ℕ, _+_, _^_}
-use mathlib.Core.Bool.{false}
+use mathlib.Core.Bool.{Bool, true, false, not, _&&_, true≢false}
 use mathlib.Core.List.{[], _∷_}
-use mathlib.Core.Path.{_≡_, refl}
+use mathlib.Core.Path.{_≡_, refl, sym}
+use lib.Dec.{ltb}
 use lib.IntN.{pos, negsuc}
 use Rattle.strings.specs.declared.Verdict.the-variants.{Clean, Repaired}
 use Rattle.strings.specs.declared.hamming.Damage.the-variants.{Unplaced, Even, Outside}
@@ -14,7 +15,7 @@ use Rattle.relative.specs.declared.Polarity.the-variants.{Upright, Inverted}
 use Rattle.relative.specs.Relative.{readRelative, writeRelative, inverse}
 use Rattle.relative.specs.Polarity.{polarityOf}
 use Rattle.strings.specs.Hamming.{position, sumC, sumAll, syndrome, sumsSet, highest, placed, judge, ruling, mended, encode}
-use Rattle.strings.specs.Numbers.{firstOf, answerOf}
+use Rattle.strings.specs.Numbers.{test, firstOf, answerOf}
 use Rattle.strings.specs.Calls.{soundTests}
 use Rattle.strings.specs.Known.{A, zeros, a, said, known as strings-known}
 use Rattle.relative.specs.Known.{B, inverseB, known as relative-known}
@@ -26,7 +27,8 @@ use Rattle.words.specs.Tidied.{wordAt}
 use Rattle.words.specs.Known.{known as words-known}
 use Rattle.book.specs.Shows.{dayOf}
 use Rattle.book.specs.Known.{known as days-known}
-use Rattle.station.specs.Station.{freshStation, isNoChannel, stationTests, toldIn}
+use Rattle.channel.specs.Offers.{offerTests}
+use Rattle.station.specs.Station.{lastChannel, freshStation, heldAt, isServed, stationTests, toldIn}
 
 pub record KnownStrings : Type 0 where
   -- "A: m = 1, data zero, encoded: bits 81, 8, 7, 5 set; 08 00 00 00 00 00 00 00 00 06 80. Clean."
@@ -62,7 +64,7 @@ pub record KnownStrings : Type 0 where
   -- "Eleven zero bytes: clean, then NUMBER": by the check, then by the reader whatever kind is asked, and on any channel of a fresh station at any epoch
   pub zeros-clean : ruling (numberOf zeros) ≡ Sound Clean
   pub zeros-number : (k : Kind) → firstOf (readTests zeros k) ≡ 5
-  pub zeros-offered : (c epoch : ℕ) → isNoChannel c ≡ false → answerOf (stationTests freshStation c epoch zeros) (toldIn freshStation c epoch zeros) ≡ 5 ∷ []
+  pub zeros-offered : (c epoch : ℕ) → isServed c ≡ true → answerOf (stationTests freshStation c epoch zeros) (toldIn freshStation c epoch zeros) ≡ 5 ∷ []
   -- "Five signed bits 10000, 10001, 11111, 01111: 0, -1, -15, 15.": in the x acceleration, the fourth word of string 1
   pub minus-zero : valueIn (wordAt One 3) 0b10000 ≡ pos 0
   pub minus-one : valueIn (wordAt One 3) 0b10001 ≡ negsuc 0
@@ -78,9 +80,13 @@ pub record KnownStrings : Type 0 where
   pub next-day : dayOf 7 1 ≡ 8767
 
 -- the row that no lower table has
-zeros-offered-so : (c epoch : ℕ) → isNoChannel c ≡ false → answerOf (stationTests freshStation c epoch zeros) (toldIn freshStation c epoch zeros) ≡ 5 ∷ []
-unfolding soundTests numberOf paddingOf misshapen wordOf readRelative position sumC sumAll syndrome sumsSet highest placed judge ruling mended
-zeros-offered-so c epoch served = rw served refl
+zeros-offered-so : (c epoch : ℕ) → isServed c ≡ true → answerOf (stationTests freshStation c epoch zeros) (toldIn freshStation c epoch zeros) ≡ 5 ∷ []
+unfolding isServed soundTests numberOf paddingOf misshapen wordOf readRelative position sumC sumAll syndrome sumsSet highest placed judge ruling mended
+zeros-offered-so c epoch served = by (ltb lastChannel c) served
+  where
+    by : (t : Bool) → (not t && true) ≡ true → answerOf (test 1 t ∷ offerTests (heldAt freshStation c) epoch zeros) (toldIn freshStation c epoch zeros) ≡ 5 ∷ []
+    by true e = absurd (true≢false (sym e))
+    by false e = refl
 
 pub known-strings : KnownStrings
 known-strings =

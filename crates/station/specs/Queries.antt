@@ -2,7 +2,7 @@
 -- Assumes nothing.
 use Prim.Native.Nat.{ℕ, _*_, _^_}
 use mathlib.Core.Bool.{Bool, not, _&&_}
-use mathlib.Core.List.{List, [], _∷_, map}
+use mathlib.Core.List.{List, [], _∷_, _++_, map}
 use mathlib.Core.Path.{_≡_}
 use lib.Dec.{eqb, leb}
 use Rattle.strings.specs.Pick.{pick}
@@ -30,7 +30,7 @@ use Rattle.station.specs.declared.TalliesFound.{TalliesFound}
 use Rattle.station.specs.declared.TalliesFound.the-variants.{Found as FoundTallies, Refused as NoTallies}
 use Rattle.station.specs.declared.HealthFound.{HealthFound}
 use Rattle.station.specs.declared.HealthFound.the-variants.{Found as FoundHealth, Refused as NoHealth}
-use Rattle.station.specs.Station.{rowAt, isNoChannel, channelTests}
+use Rattle.station.specs.Station.{rowAt, gateTests}
 
 -- ---- the immediate record: 1, 13
 abbrev pub keptAt : Station → ℕ → Immediate
@@ -38,7 +38,7 @@ keptAt st c = rowAt st c .immediate
 
 -- NOTHING: "record or entry asked for is absent"
 abbrev pub recordTests : Station → ℕ → List Test
-recordTests st c = test 1 (isNoChannel c) ∷ test 13 (not (hasRecord (keptAt st c))) ∷ []
+recordTests st c = gateTests c ++ (test 13 (not (hasRecord (keptAt st c))) ∷ [])
 
 abbrev pub recordPaper : RecordFound → List ℕ
 recordPaper (FoundRecord w) = 0 ∷ []
@@ -83,7 +83,7 @@ talliesPaper (FoundTallies t) = 0 ∷ allCounts t
 talliesPaper (NoTallies q) = refusalPaper q
 
 unfoldable pub FindsTallies : Station → ℕ → TalliesFound → Type 0
-FindsTallies st c r = talliesPaper r ≡ answerOf (channelTests c) (allCounts (rowAt st c .tallies))
+FindsTallies st c r = talliesPaper r ≡ answerOf (gateTests c) (allCounts (rowAt st c .tallies))
 
 -- ---- the summary, which is never refused: "how many slots are filled, the oldest day and the newest", as the station keeps it
 abbrev pub FindsSummary : Station → Summary → Type 0
@@ -140,4 +140,4 @@ healthPaper (FoundHealth h) = 0 ∷ healthNumber h ∷ []
 healthPaper (NoHealth q) = refusalPaper q
 
 unfoldable pub FindsHealth : Station → ℕ → HealthFound → Type 0
-FindsHealth st c r = healthPaper r ≡ answerOf (channelTests c) (healthNumber (healthBy (keptAt st c) (st .book)) ∷ [])
+FindsHealth st c r = healthPaper r ≡ answerOf (gateTests c) (healthNumber (healthBy (keptAt st c) (st .book)) ∷ [])

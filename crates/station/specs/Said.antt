@@ -4,7 +4,6 @@ use Prim.Native.Nat.{ℕ}
 use mathlib.Core.List.{List, [], _∷_, map}
 use mathlib.Core.Logic.{_⊎_}
 use mathlib.Core.Path.{_≡_}
-use lib.Dec.{eqb}
 use Rattle.strings.specs.Pick.{pick}
 use Rattle.strings.specs.Calls.{writtenPaper}
 use Rattle.channel.specs.Offers.{answerPaper}
@@ -12,7 +11,7 @@ use Rattle.station.specs.declared.Station.{Station}
 use Rattle.station.specs.declared.Stepped.{Stepped}
 use Rattle.station.specs.declared.Emptied.{Emptied}
 use Rattle.station.specs.Station.{OffersTo, Resets}
-use Rattle.station.specs.History.{Call, Offer, Reset, channelOf}
+use Rattle.station.specs.History.{Call, Offer, Reset, isOn}
 
 -- a call, and its answer in the paper's numbers
 pub record Said : Type 0 where
@@ -44,7 +43,7 @@ pub record Ran (from : Station) (cs : List Call) : Type 0 where
 -- the answers that the calls on one channel gave
 unfoldable pub answersOn : ℕ → List Said → List (List ℕ)
 answersOn c [] = []
-answersOn c (x ∷ before) = pick (eqb (channelOf (x .call)) c) (x .answer ∷ answersOn c before) (answersOn c before)
+answersOn c (x ∷ before) = pick (isOn c (x .call)) (x .answer ∷ answersOn c before) (answersOn c before)
 
 -- this call was made, and gave this answer
 abbrev pub Among : Said → List Said → Type 0

@@ -3,6 +3,7 @@
 -- string itself is taken as clean. The proof stands in `proofs/Sent.antt`.
 -- Assumes nothing.
 use Prim.Native.Nat.{ℕ, _-_, _%_, _^_, _≤_, _<_}
+use mathlib.Core.Bool.{true}
 use mathlib.Core.List.{List, [], _∷_, map}
 use mathlib.Core.Logic.{_⊎_}
 use mathlib.Core.Path.{_≡_, refl}
@@ -19,7 +20,7 @@ use Rattle.channel.specs.Offers.{answerPaper}
 use Rattle.station.specs.declared.Station.{Station}
 use Rattle.station.specs.declared.Stepped.{Stepped}
 use Rattle.station.specs.declared.TalliesFound.{TalliesFound}
-use Rattle.station.specs.Station.{channels, lastChannel, freshStation, rowAt, OffersTo}
+use Rattle.station.specs.Station.{channels, lastChannel, freshStation, rowAt, isServed, OffersTo}
 use Rattle.station.specs.Queries.{talliesPaper, FindsTallies}
 
 -- ---- a string, and how it is sent
@@ -47,7 +48,7 @@ IsBit i = (1 ≤ i) × (i ≤ 84)
 
 -- ---- where it is offered: on one of the channels, none of whose fifteen strings is present, and not before its frame can have begun
 pub record Awaits (st : Station) (c epoch n : ℕ) : Type 0 where
-  pub served : c ≤ lastChannel
+  pub served : isServed c ≡ true
   pub no-frame : rowAt st c .present % 2 ^ 15 ≡ 0
   pub numbered : 1 ≤ mOf n
   pub not-early : mOf n - 1 ≤ epoch
@@ -93,8 +94,8 @@ pub record HeardAsSent (st : Station) (c epoch n : ℕ) : Type 0 where
       → talliesPaper t ≡ 0 ∷ oneMore (talliesAt st c .offered) ∷ talliesAt st c .clean ∷ oneMore (talliesAt st c .repaired) ∷ talliesAt st c .refused ∷ map (causeOf (talliesAt st c)) causes
   -- "a flip of bit 8 alone is refused": 31, "S = 0, C = 1"; and "every two flips are DAMAGED": 32, "S not 0, C = 0". Whatever the channel holds, at
   -- every epoch
-  pub bit-8 : (s : List ℕ) (r : Stepped) → c ≤ lastChannel → SentAs (flip n 8) s → OffersTo st c epoch s r → answerPaper (r .answer) ≡ 31 ∷ []
-  pub two-flips : (i j : ℕ) (s : List ℕ) (r : Stepped) → c ≤ lastChannel → IsBit i → IsBit j → (i ≡ j → ⊥) → SentAs (flip (flip n i) j) s → OffersTo st c epoch s r
+  pub bit-8 : (s : List ℕ) (r : Stepped) → isServed c ≡ true → SentAs (flip n 8) s → OffersTo st c epoch s r → answerPaper (r .answer) ≡ 31 ∷ []
+  pub two-flips : (i j : ℕ) (s : List ℕ) (r : Stepped) → isServed c ≡ true → IsBit i → IsBit j → (i ≡ j → ⊥) → SentAs (flip (flip n i) j) s → OffersTo st c epoch s r
       → answerPaper (r .answer) ≡ 32 ∷ []
 
 -- ---- such strings there are: the paper's A, on the last channel of a fresh station at epoch 0
@@ -104,10 +105,10 @@ pub record SentWitness : Type 0 where
   pub A-number : mOf a ≡ 1
 
 pub sent-witness : SentWitness
-unfolding freshStation emptyRow a numberOf wordOf position sumC sumAll syndrome
+unfolding freshStation isServed emptyRow a numberOf wordOf position sumC sumAll syndrome
 sent-witness =
     record {
       A-good = record { small = lit< tt; idle = refl; encoded = record { sums = refl; all = refl } };
-      A-awaited = record { served = lit≤ tt; no-frame = refl; numbered = lit≤ tt; not-early = lit≤ tt };
+      A-awaited = record { served = refl; no-frame = refl; numbered = lit≤ tt; not-early = lit≤ tt };
       A-number = refl;
     }

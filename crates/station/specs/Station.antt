@@ -1,14 +1,14 @@
 -- A station: 24 rows, one book and its summary, and what an offer and a reset make of it (the paper, "Frames and the book" and "Numbers that say no";
 -- request 5). For every station value.
 -- Assumes nothing.
-use Prim.Native.Nat.{ℕ, _-_}
-use mathlib.Core.Bool.{Bool, _&&_}
-use mathlib.Core.List.{List, [], _∷_}
+use Prim.Native.Nat.{ℕ, _-_, _<_}
+use mathlib.Core.Bool.{Bool, true, false, not, _&&_}
+use mathlib.Core.List.{List, [], _∷_, _++_}
 use mathlib.Core.Path.{_≡_}
 use lib.Dec.{ltb}
 use lib.ListN.{getD, set, replicate}
 use Rattle.strings.specs.Pick.{pick}
-use Rattle.strings.specs.Numbers.{Test, test, answerOf}
+use Rattle.strings.specs.Numbers.{refusalPaper, Test, test, answerOf}
 use Rattle.strings.specs.Calls.{writtenPaper}
 use Rattle.book.specs.declared.Book.{Book}
 use Rattle.book.specs.Book.{emptyBook}
@@ -21,6 +21,8 @@ use Rattle.channel.specs.Row.{frameOf, emptyRow}
 use Rattle.channel.specs.Offers.{answerPaper, offerTests, toldTo, offeredRow, storesIt}
 use Rattle.shows.specs.Shows.{showsOf, brought, changes}
 use Rattle.station.specs.declared.Station.{Station}
+use Rattle.station.specs.declared.Gate.{Gate}
+use Rattle.station.specs.declared.Gate.the-variants.{Open, Shut}
 use Rattle.station.specs.declared.Stepped.{Stepped}
 use Rattle.station.specs.declared.Emptied.{Emptied}
 
@@ -46,17 +48,30 @@ rowAt st c = getD (st .rows) c noRow
 abbrev pub heldAt : Station → ℕ → Frame
 heldAt st c = frameOf (rowAt st c)
 
--- CHANNEL: "channel above 23"
-abbrev pub isNoChannel : ℕ → Bool
-isNoChannel c = ltb lastChannel c
+-- ---- the gate: the tests that stand before a channel's own, in every call that names a channel. CHANNEL: "channel above 23"
+abbrev pub gateTests : ℕ → List Test
+gateTests c = test 1 (ltb lastChannel c) ∷ []
 
--- the one test of the calls that only need a channel
-abbrev pub channelTests : ℕ → List Test
-channelTests c = test 1 (isNoChannel c) ∷ []
+-- a call is served where none of them fits
+abbrev pub noneFits : List Test → Bool
+noneFits [] = true
+noneFits (t ∷ ts) = not (t .fits) && noneFits ts
+
+unfoldable pub isServed : ℕ → Bool
+isServed c = noneFits (gateTests c)
+
+-- what a call is told that is not: the first that fits
+abbrev pub shutSays : ℕ → List ℕ
+shutSays c = answerOf (gateTests c) []
+
+-- where a call enters: at its channel's row, which is one of the rows; or not, and why
+abbrev pub Enters : ℕ → Gate → Type 0
+Enters c (Open i) = (isServed c ≡ true) × ((i ≡ c) × (i < channels))
+Enters c (Shut why) = (isServed c ≡ false) × (refusalPaper why ≡ shutSays c)
 
 -- ---- an offer: "tested in the order 1 to 9"
 abbrev pub stationTests : Station → ℕ → ℕ → List ℕ → List Test
-stationTests st c epoch s = test 1 (isNoChannel c) ∷ offerTests (heldAt st c) epoch s
+stationTests st c epoch s = gateTests c ++ offerTests (heldAt st c) epoch s
 
 -- "A taken offer answers m, a verdict .. and news", and the polarity
 abbrev pub toldIn : Station → ℕ → ℕ → List ℕ → List ℕ
@@ -80,12 +95,13 @@ summaryAfter old b row epoch s = corrected (entryChanges b row epoch s) (bookAft
 -- "CHANNEL changes nothing at all"; any other offer changes its channel's row, the book and the summary
 unfoldable pub stationAfter : Station → ℕ → ℕ → List ℕ → Station
 stationAfter st c epoch s =
-    pick (isNoChannel c) st
+    pick (isServed c)
     (record {
       rows = set (st .rows) c (offeredRow (rowAt st c) epoch s);
       book = bookAfter (st .book) (rowAt st c) epoch s;
       summary = summaryAfter (st .summary) (st .book) (rowAt st c) epoch s;
     })
+    st
 
 pub record OffersTo (st : Station) (c epoch : ℕ) (s : List ℕ) (r : Stepped) : Type 0 where
   pub answer : answerPaper (r .answer) ≡ answerOf (stationTests st c epoch s) (toldIn st c epoch s)
@@ -93,8 +109,8 @@ pub record OffersTo (st : Station) (c epoch : ℕ) (s : List ℕ) (r : Stepped) 
 
 -- ---- "Reset: 1". "A reset empties the row, record and tallies; the book stays", and its summary
 unfoldable pub stationReset : Station → ℕ → Station
-stationReset st c = pick (isNoChannel c) st (record { rows = set (st .rows) c emptyRow; book = st .book; summary = st .summary })
+stationReset st c = pick (isServed c) (record { rows = set (st .rows) c emptyRow; book = st .book; summary = st .summary }) st
 
 pub record Resets (st : Station) (c : ℕ) (r : Emptied) : Type 0 where
-  pub answer : writtenPaper (r .answer) ≡ answerOf (channelTests c) []
+  pub answer : writtenPaper (r .answer) ≡ shutSays c
   pub station : r .station ≡ stationReset st c

@@ -1,5 +1,6 @@
 // The station: 24 rows, one book and its summary. Strings go in by channel; the book, what it holds in
 // short, the records, the tallies and the health of a satellite come out.
+mod entering;
 mod offering;
 mod queries;
 
@@ -7,6 +8,7 @@ use book::Book;
 use book::Entry;
 use channel::Answer;
 use channel::Row;
+pub use entering::gate_number;
 pub use offering::fresh;
 pub use offering::next_summary;
 pub use offering::offer;
@@ -35,6 +37,12 @@ pub struct Station {
     pub rows: [Row; CHANNELS],
     pub book: Book,
     pub summary: Summary,
+}
+
+// Where a call on a channel enters: at the row of this index, or not, and why.
+pub enum Gate {
+    Open(usize),
+    Shut(Refusal),
 }
 
 // An offer's answer, and the station after it.

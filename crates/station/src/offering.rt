@@ -1,9 +1,10 @@
 // The calls that change a station.
 use crate::CHANNELS;
 use crate::Emptied;
-use crate::LAST_CHANNEL;
+use crate::Gate;
 use crate::Station;
 use crate::Stepped;
+use crate::entering::enter;
 use book::Book;
 use book::empty_book;
 use channel::Answer;
@@ -12,7 +13,6 @@ use channel::empty_row;
 use channel::is_stored;
 use shows::Brought;
 use shows::bring;
-use strings::Refusal;
 use strings::Written;
 use summary::Summary;
 use summary::walk_book;
@@ -46,28 +46,30 @@ pub fn fresh() -> Station
 pub fn offer(mut st: Station, channel: u8, epoch: u32, s: &[u8]) -> Stepped
     ensures { λ r. ⌜ OffersTo st channel epoch (now (s .entry)) r ⌝ }
 {
-    if LAST_CHANNEL < channel {
-        return Stepped {
+    let gate = enter(channel);
+    match gate {
+        Gate::Shut(why) => Stepped {
             station: st,
-            answer: Answer::Refused(Refusal::Channel),
-        };
-    }
-    let i = channel as usize;
-    let row = st.rows[i];
-    let offered = channel::offer(row, epoch, s);
-    let next = offered.row;
-    let answer = offered.answer;
-    st.rows[i] = next;
-    let book = st.book;
-    let brought = bring_if(answer, next, book);
-    let joined = brought.book;
-    st.book = joined;
-    let old = st.summary;
-    let kept = next_summary(brought.changed, joined, old);
-    st.summary = kept;
-    Stepped {
-        station: st,
-        answer,
+            answer: Answer::Refused(why),
+        },
+        Gate::Open(i) => {
+            let row = st.rows[i];
+            let offered = channel::offer(row, epoch, s);
+            let next = offered.row;
+            let answer = offered.answer;
+            st.rows[i] = next;
+            let book = st.book;
+            let brought = bring_if(answer, next, book);
+            let joined = brought.book;
+            st.book = joined;
+            let old = st.summary;
+            let kept = next_summary(brought.changed, joined, old);
+            st.summary = kept;
+            Stepped {
+                station: st,
+                answer,
+            }
+        }
     }
 }
 
@@ -101,17 +103,19 @@ pub fn next_summary(changed: bool, b: Book, old: Summary) -> Summary
 pub fn reset(mut st: Station, channel: u8) -> Emptied
     ensures { λ r. ⌜ Resets st channel r ⌝ }
 {
-    if LAST_CHANNEL < channel {
-        return Emptied {
+    let gate = enter(channel);
+    match gate {
+        Gate::Shut(why) => Emptied {
             station: st,
-            answer: Written::Refused(Refusal::Channel),
-        };
-    }
-    let i = channel as usize;
-    let row = empty_row();
-    st.rows[i] = row;
-    Emptied {
-        station: st,
-        answer: Written::Done,
+            answer: Written::Refused(why),
+        },
+        Gate::Open(i) => {
+            let row = empty_row();
+            st.rows[i] = row;
+            Emptied {
+                station: st,
+                answer: Written::Done,
+            }
+        }
     }
 }

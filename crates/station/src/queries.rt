@@ -1,11 +1,12 @@
 // The calls that ask a station.
 use crate::EntryFound;
+use crate::Gate;
 use crate::Health;
 use crate::HealthFound;
-use crate::LAST_CHANNEL;
 use crate::RecordFound;
 use crate::Station;
 use crate::TalliesFound;
+use crate::entering::enter;
 use book::Book;
 use book::LAST_SLOT;
 use book::entry_in;
@@ -23,17 +24,19 @@ ghost use Rattle.station.specs.Queries.{FindsRecord, FindsEntry, FindsTa
 pub fn immediate_of(st: Station, channel: u8) -> RecordFound
     ensures { λ r. ⌜ FindsRecord st channel r ⌝ }
 {
-    if LAST_CHANNEL < channel {
-        return RecordFound::Refused(Refusal::Channel);
+    let gate = enter(channel);
+    match gate {
+        Gate::Shut(why) => RecordFound::Refused(why),
+        Gate::Open(i) => {
+            let row = st.rows[i];
+            let four = row.immediate;
+            if !has_record(four) {
+                return RecordFound::Refused(Refusal::Nothing);
+            }
+            let s = four.strings;
+            RecordFound::Found(immediate_words(s))
+        }
     }
-    let i = channel as usize;
-    let row = st.rows[i];
-    let four = row.immediate;
-    if !has_record(four) {
-        return RecordFound::Refused(Refusal::Nothing);
-    }
-    let s = four.strings;
-    RecordFound::Found(immediate_words(s))
 }
 
 // The entry of a slot; the book's slots are numbered from 1.
@@ -58,13 +61,15 @@ pub fn entry_of(st: Station, slot: u8) -> EntryFound
 pub fn tallies_of(st: Station, channel: u8) -> TalliesFound
     ensures { λ r. ⌜ FindsTallies st channel r ⌝ }
 {
-    if LAST_CHANNEL < channel {
-        return TalliesFound::Refused(Refusal::Channel);
+    let gate = enter(channel);
+    match gate {
+        Gate::Shut(why) => TalliesFound::Refused(why),
+        Gate::Open(i) => {
+            let row = st.rows[i];
+            let t = row.tallies;
+            TalliesFound::Found(t)
+        }
     }
-    let i = channel as usize;
-    let row = st.rows[i];
-    let t = row.tallies;
-    TalliesFound::Found(t)
 }
 
 // How many slots are filled, the oldest day and the newest: as kept, with no walk.
@@ -79,14 +84,16 @@ pub fn summary_of(st: Station) -> Summary
 pub fn health_of(st: Station, channel: u8) -> HealthFound
     ensures { λ r. ⌜ FindsHealth st channel r ⌝ }
 {
-    if LAST_CHANNEL < channel {
-        return HealthFound::Refused(Refusal::Channel);
+    let gate = enter(channel);
+    match gate {
+        Gate::Shut(why) => HealthFound::Refused(why),
+        Gate::Open(i) => {
+            let row = st.rows[i];
+            let kept = row.immediate;
+            let b = st.book;
+            HealthFound::Found(health_by(kept, b))
+        }
     }
-    let i = channel as usize;
-    let row = st.rows[i];
-    let kept = row.immediate;
-    let b = st.book;
-    HealthFound::Found(health_by(kept, b))
 }
 
 // Without a record, or without a book entry for its n, it is unknown.
