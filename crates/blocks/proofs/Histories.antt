@@ -72,7 +72,7 @@ blocks-as-calls =
           demands .exchange later earlier x y st n (subst (λ (l : List Said). RunsFrom freshStation l st) e (its-run run)) .only (saidIn h) st′
           (its-run run′) e′;
       reordering = λ g h st st′ run run′. demands .reordering (saidIn g) (saidIn h) st st′ (its-run run) (its-run run′);
-      two-cards = λ g h st st′ run run′ same. demands .two-cards (callsBy g) (callsBy h) same st st′ (its-calls run) (its-calls run′);
+      two-stations = λ g h st st′ run run′ same. demands .two-stations (callsBy g) (callsBy h) same st st′ (its-calls run) (its-calls run′);
       book = λ h st run. demands .book (callsBy h) st (its-calls run);
       summary = λ h st run. demands .summary (callsBy h) st (its-calls run);
       health = λ h st run. demands .health (callsBy h) st (its-calls run);

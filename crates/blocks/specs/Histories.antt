@@ -82,7 +82,7 @@ pub record BlocksAsCalls : Type 0 where
       → (saidIn h ≡ later ++ (y ∷ x ∷ earlier)) × (st′ ≡ st)
   pub reordering : (g h : List Event) (st st′ : Station) → RunsBy freshStation g st → RunsBy freshStation h st′ → SameCalls (callsBy g) (callsBy h)
       → Reordered (saidIn g) (saidIn h) st st′
-  pub two-cards : (g h : List Event) (st st′ : Station) → RunsBy freshStation g st → RunsBy freshStation h st′ → SameShown (callsBy g) (callsBy h)
+  pub two-stations : (g h : List Event) (st st′ : Station) → RunsBy freshStation g st → RunsBy freshStation h st′ → SameShown (callsBy g) (callsBy h)
       → st .book ≡ st′ .book
   -- "at all times an almanac slot holds the greatest entry .. that any channel has shown since the start"
   pub book : (h : List Event) (st : Station) → RunsBy freshStation h st → (slot : ℕ) → 1 ≤ slot → slot ≤ slots → BookRule (callsBy h) st slot

@@ -122,8 +122,8 @@ reset-counts st c r made e o =
     ∙ ap (λ (x : Row). allCounts (x .tallies)) (getD-set-same (st .rows) c emptyRow noRow (omega (arith, served-below c e, made .rows)))
 
 -- ---- DEMAND 3
-pub two-cards : (cs ds : List Call) → SameShown cs ds → SameBooks cs ds
-two-cards cs ds same st st′ run run′ = same-book cs ds st st′ run run′ (λ k u. same k u .0) (λ k u. same k u .1)
+pub two-stations : (cs ds : List Call) → SameShown cs ds → SameBooks cs ds
+two-stations cs ds same st st′ run run′ = same-book cs ds st st′ run run′ (λ k u. same k u .0) (λ k u. same k u .1)
 
 pub book-rule : (cs : List Call) (st : Station) → Runs cs st → (slot : ℕ) → 1 ≤ slot → slot ≤ slots → BookRule cs st slot
 book-rule cs st run slot least most = record { greatest = greatest-there cs st run slot least most; empty = empty-exactly cs st run slot least most }
@@ -382,7 +382,7 @@ demands =
       answers = answered;
       exchange = λ later earlier x y st differ. exchanged x y differ later earlier st;
       reordering = reordered;
-      two-cards = two-cards;
+      two-stations = two-stations;
       book = book-rule;
       summary = summary-rule;
       every-beat = λ h phase. let w = every-phase h phase in (w .0, (w .1, w .2));

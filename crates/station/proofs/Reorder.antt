@@ -82,7 +82,7 @@ module _ (cs ds : List Call) (st st′ : Station) (run : Runs cs st) (run′ : R
         let e : suc i - 1 ≡ i = omega arith in
         ap (λ (j : ℕ). getD (st .book .entries) j blank) (sym e) ∙ same-slot (suc i) (omega arith) (omega (arith, f)) ∙ ap (λ (j : ℕ). getD (st′ .book .entries) j blank) e)
 
-    -- TWO CARDS HOLD THE SAME BOOK, whatever channels the entries came by and in whatever order
+    -- TWO STATIONS HOLD THE SAME BOOK, whatever channels the entries came by and in whatever order
     pub same-book : st .book ≡ st′ .book
     same-book = ap (λ (l : List Entry). record { entries = l }) same-entries
 

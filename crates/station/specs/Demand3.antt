@@ -39,7 +39,7 @@ pub record Reordered (all other : List Said) (st st′ : Station) : Type 0 where
   pub station : st ≡ st′
   pub answers : (c : ℕ) → isServed c ≡ true → answersOn c all ≡ answersOn c other
 
--- and two cards on one antenna, each with its own calls, hold the same book where they were shown the same entries
+-- and two stations on one antenna, each with its own calls, hold the same book where they were shown the same entries
 abbrev pub SameShown : List Call → List Call → Type 0
 SameShown cs ds = (slot : ℕ) (t : Three) → ShownIn cs slot t ↔ ShownIn ds slot t
 

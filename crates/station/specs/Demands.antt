@@ -89,7 +89,7 @@ pub record AllDemands : Type 0 where
   -- "two cards side by side on one antenna", "although each serves its channels in its own order"
   pub reordering : (all other : List Said) (st st′ : Station) → RunsFrom freshStation all st → RunsFrom freshStation other st′
       → SameCalls (callsOf all) (callsOf other) → Reordered all other st st′
-  pub two-cards : (cs ds : List Call) → SameShown cs ds → SameBooks cs ds
+  pub two-stations : (cs ds : List Call) → SameShown cs ds → SameBooks cs ds
   -- "And at all times an almanac slot holds the greatest entry, by day and then by bits, that any channel has shown since the start, both halves and the
   -- day coming from one frame of one channel; a slot is empty exactly when none was shown."
   pub book : (cs : List Call) (st : Station) → Runs cs st → (slot : ℕ) → 1 ≤ slot → slot ≤ slots → BookRule cs st slot
