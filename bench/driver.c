@@ -15,8 +15,8 @@ extern u8 measured_block(const u8 *block, usize n);
 extern unsigned spineyarrow_check(const u8 *s, usize n, u8 *out, usize room);
 extern unsigned spineyarrow_word(const u8 *s, usize n, u8 word, double *value);
 extern unsigned spineyarrow_immediate(const u8 *one, usize n1, const u8 *two, usize n2, const u8 *three, usize n3, const u8 *four, usize n4, int *words, double *numbers);
-extern told spineyarrow_offer(void *station, u8 channel, unsigned epoch, const u8 *s, usize n);
-extern told spineyarrow_field(void *station, const u8 *block, usize n, usize at);
+extern told spineyarrow_offer(void *station, u8 card, u8 channel, unsigned epoch, const u8 *s, usize n);
+extern told spineyarrow_field(void *station, u8 card, const u8 *block, usize n, usize at);
 extern usize spineyarrow_next(const u8 *block, usize n, usize at);
 
 enum { STRINGS = 75, CHANNELS = 4, RECORD = 16, FIELD = 3 + RECORD, KINDS = 8 };
@@ -24,11 +24,13 @@ static u8 sent[STRINGS][11], plain[STRINGS][11], wrong1[STRINGS][11], wrong2[STR
 static u8 number[STRINGS], kind[STRINGS], records[STRINGS * CHANNELS * RECORD], block[STRINGS * CHANNELS * FIELD];
 static double value, numbers[12];
 static int words[STRINGS][8], read[26], of_kind[KINDS + 1][STRINGS], many[KINDS + 1], now;
-/* a station lent to the library: 24 rows, 24 entries of 24 bytes, and their summary; all zero is fresh. unproved and report.py read the row's size here */
+/* a station lent to the library: 48 rows, 24 entries of 24 bytes, and their summary; all zero is fresh. All calls are card one's. unproved reads the
+   row's size here, and report.py that and the number of rows */
+#define ROWS 48
 #ifndef ROW
 #define ROW 276
 #endif
-static struct { u8 rows[24][ROW], book[24][24], summary[16]; } __attribute__((aligned(8))) station;
+static struct { u8 rows[ROWS][ROW], book[24][24], summary[16]; } __attribute__((aligned(8))) station;
 
 static void turn(u8 *s, int bit) { s[(85 - bit) / 8] ^= 1 << ((bit + 2) % 8); }
 static void relative(int i) { rig_sink = measured_relative(sent[i], 11, out, 11); }
@@ -57,7 +59,7 @@ static void lent(int i) {
     for (k = 0; k < STRINGS * CHANNELS; k++) {
         const u8 *r = records + RECORD * k;
         unsigned epoch = (unsigned)r[1] << 24 | r[2] << 16 | r[3] << 8 | r[4];
-        said ^= byte_told(spineyarrow_offer(&station, r[0], epoch, r + 5, 11));
+        said ^= byte_told(spineyarrow_offer(&station, 1, r[0], epoch, r + 5, 11));
     }
     rig_sink = said ^ station.book[0][18];
 }
@@ -66,7 +68,7 @@ static void lent_block(int i) {
     usize at = 0, next;
     memset(&station, 0, sizeof station);
     for (;; at = next) {
-        told a = spineyarrow_field(&station, block, sizeof block, at);
+        told a = spineyarrow_field(&station, 1, block, sizeof block, at);
         next = spineyarrow_next(block, sizeof block, at);
         if (next == at) break;
         said ^= byte_told(a >> 8);

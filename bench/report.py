@@ -27,7 +27,8 @@ row("an offer, station lent", x86["lent"], m0["lent"], share=STRINGS)
 row("an offer in a block, station lent", x86["lent-block"], m0["lent-block"], share=STRINGS)
 row("an offer, station by value", x86["by-value"], m0["by-value"], x86["fresh"], m0["fresh"], STRINGS)
 row("an offer in a block, station by value", x86["by-value-block"], m0["by-value-block"], x86["fresh"], m0["fresh"], STRINGS)
-ROW = int(re.search(r"^#define ROW (\d+)", (pathlib.Path(__file__).parent / "driver.c").read_text(), re.M)[1])
-STATION = 24 * ROW + 24 * 24 + 16
+DRIVER = (pathlib.Path(__file__).parent / "driver.c").read_text()
+ROWS, ROW = (int(re.search(rf"^#define {name} (\d+)", DRIVER, re.M)[1]) for name in ("ROWS", "ROW"))
+STATION = ROWS * ROW + 24 * 24 + 16
 print(f"\nMemory of a program with one station on the M0, bytes: lent {STATION + m0['lent'][2]:,}"
       f" ({STATION:,} resident and {m0['lent'][2]:,} of stack), in blocks {STATION + m0['lent-block'][2]:,}, by value {m0['by-value'][2]:,} of stack")

@@ -62,21 +62,23 @@ uint32_t spineyarrow_word(const uint8_t *s, uint64_t s_length, uint8_t word, dou
    the four share a frame is not tested. */
 uint32_t spineyarrow_immediate(const uint8_t *one, uint64_t one_length, const uint8_t *two, uint64_t two_length, const uint8_t *three, uint64_t three_length, const uint8_t *four, uint64_t four_length, int32_t words[26], double numbers[12]);
 
-/* ==== liblent.a (rt staticlib lent): a station that lies in the host's memory, 7,216 bytes aligned to 8; all zero is a fresh one */
+/* ==== liblent.a (rt staticlib lent): a station of two cards that lies in the host's memory, 13,840 bytes aligned to 8; all zero is a fresh one */
 
-/* Offers a string, in relative form and of any length, to a channel at an epoch. CHANNEL is told as
-   1, before anything of the station is read. */
-uint64_t spineyarrow_offer(void *station, uint8_t channel, uint32_t epoch, const uint8_t *s, uint64_t s_length);
+/* Offers a string, in relative form and of any length, to a channel at an epoch. Card 1 has channels 0
+   to 23, card 2 24 to 47. A card that is neither is told 16 CARD, a channel above 47 1 CHANNEL, and the
+   other card's 15 OWNER, before anything of the station is read. */
+uint64_t spineyarrow_offer(void *station, uint8_t card, uint8_t channel, uint32_t epoch, const uint8_t *s, uint64_t s_length);
 
-/* CHANNEL is told as 1, before anything of the station is touched. The book stays. */
-uint64_t spineyarrow_reset(void *station, uint8_t channel);
+/* Empties a channel's row, its record and its tallies; the book stays. Card and channel are tested as
+   those of an offer, and told in the same way, before anything of the station is touched. */
+uint64_t spineyarrow_reset(void *station, uint8_t card, uint8_t channel);
 
 /* ==== liblent_blocks.a (rt staticlib lent_blocks): a block of fields handed to such a station, field by field */
 
-/* Does the field at a place, and tells it in one number: in its lowest byte 0 at the end of the block, 1
-   an offer, 2 a reset, 3 a remark, or what says no to the field; above that the numbers of the call's
-   own answer. */
-uint64_t spineyarrow_field(void *station, const uint8_t *block, uint64_t block_length, uint64_t at);
+/* Does the field at a place, for the card that hands the block over, and tells it in one number: in its
+   lowest byte 0 at the end of the block, 1 an offer, 2 a reset, 3 a remark, or what says no to the
+   field; above that the numbers of the call's own answer. */
+uint64_t spineyarrow_field(void *station, uint8_t card, const uint8_t *block, uint64_t block_length, uint64_t at);
 
 /* The place after the field: its own where it is refused, and at the end. */
 uint64_t spineyarrow_next(const uint8_t *block, uint64_t block_length, uint64_t at);

@@ -6,6 +6,8 @@ BEGIN {
     OFS = ", "
     words = split("P1 tk vx ax x  B P2 tb vy ay y  P3 gamma P l vz az z  tau dtau E P4 FT NT n M", name, " ")
     IMMEDIATE = 8; ENTRY = 9; TALLIES = 10; HEALTH = 11; SUMMARY = 14
+    FOR_ANY_CARD = 32
+    card_name[1] = "card one"; card_name[2] = "card two"
     causes = split("SHAPE,DAMAGED (31),DAMAGED (32),DAMAGED (33),IDLE,NUMBER,EARLY,STALE,OFF BEAT,CONFLICT", cause, ",")
     judged[1] = "usable"; judged[2] = "not usable"
     split("January February March April May June July August September October November December", month, " ")
@@ -16,20 +18,32 @@ FNR == NR { for (i = 1; i <= NF; i++) byte[size++] = $i; next }
 { answer[++answers] = $0 }
 
 END {
-    for (at = 0; at < size; at += 3 + byte[at + 1] * 256 + byte[at + 2]) hear(byte[at], byte[at + 3], answer[++requests])
+    for (at = 0; at < size; at += 3 + byte[at + 1] * 256 + byte[at + 2]) ask(byte[at], at + 3, answer[++requests])
     if (answers != requests) {
         print requests " requests, and " answers + 0 " answers" > "/dev/stderr"
         exit 1
     }
     for (i = 1; i <= asked; i++) tell_channel(channels[i])
+    for (i = 1; i <= shut; i++) print refused[i]
+    if (shut) print ""
     print "The book:\n"
     for (i = 1; i <= pages; i++) tell_slot(slots[i])
     if (summary) tell_summary()
 }
 
-# A query's answer is kept by what it is about, a channel or a slot.
-function hear(op, about, line) {
-    if (op == IMMEDIATE) { channels[++asked] = about; record[about] = line }
+# A request of any card has the card before what it is about; others speak for card one.
+function ask(op, first, line) {
+    if (op > FOR_ANY_CARD) hear(byte[first], op - FOR_ANY_CARD, byte[first + 1], line)
+    else hear(1, op, byte[first], line)
+}
+
+# A query's answer is kept by what it is about, a channel or a slot. A channel has one card.
+function hear(card, op, about, line) {
+    if (op == IMMEDIATE && line == "no 15") {
+        refused[++shut] = card_name[card] " asks for the record of channel " about ": 15 OWNER, the channel is the other card's"
+        return
+    }
+    if (op == IMMEDIATE) { channels[++asked] = about; owner[about] = card; record[about] = line }
     if (op == TALLIES) tallies[about] = line
     if (op == HEALTH) health[about] = line
     if (op == ENTRY) { slots[++pages] = about; entry[about] = line }
@@ -38,7 +52,7 @@ function hear(op, about, line) {
 
 function tell_channel(channel,    t) {
     split(tallies[channel], t, " ")
-    printf "channel %d: %d offered, %d clean, %d repaired, %d refused\n", channel, t[2], t[3], t[4], t[5]
+    printf "%s, channel %d: %d offered, %d clean, %d repaired, %d refused\n", card_name[owner[channel]], channel, t[2], t[3], t[4], t[5]
     tell_causes(t)
     if (has_record(channel)) tell_record()
     else print "  no record yet"

@@ -2,7 +2,8 @@
 
 BEGIN {
     shown = 30
-    name[1] = "CHANNEL"; why[1] = "channel above 23"
+    name[1] = "CHANNEL"; why[1] = "channel above 47"
+    name[15] = "OWNER"; why[15] = "the channel is the other card's"
     name[2] = "SHAPE"; why[2] = "padding not 0"
     name[31] = "DAMAGED, no sum set but C"; why[31] = "bit 8 wrong, or more bits that cancel in the sums"
     name[32] = "DAMAGED, an even number of wrong bits"; why[32] = "almost always two"
@@ -33,7 +34,7 @@ END {
     printf "\nOf all %d lines:\n", NR
     printf "%7d taken, clean\n", clean
     printf "%7d taken, one bit repaired\n", repaired
-    split("1 2 31 32 33 4 5 6 7 8 9", order)
+    split("1 15 2 31 32 33 4 5 6 7 8 9", order)
     for (k = 1; k in order; k++)
         if ((n = order[k]) in refused) printf "%7d refused, %d %s: %s\n", refused[n], n, name[n], why[n]
     printf "\n"

@@ -96,12 +96,13 @@ pub struct HandedOver {
 }
 
 /// "The work stops there, keeps what went before": a refused field ends it. A call that
-/// the station refuses is answered and ends nothing.
-pub fn hand_over(station: &mut Station, block: &[u8]) -> HandedOver {
+/// the station refuses is answered and ends nothing; so it refuses each call of a card that
+/// there is not.
+pub fn hand_over(station: &mut Station, card: u8, block: &[u8]) -> HandedOver {
     let mut answers = Vec::new();
     for field in fields(block) {
         match field {
-            Ok(field) => answers.extend(call(station, field)),
+            Ok(field) => answers.extend(call(station, card, field)),
             Err(refusal) => {
                 return HandedOver {
                     answers,
@@ -117,18 +118,18 @@ pub fn hand_over(station: &mut Station, block: &[u8]) -> HandedOver {
 }
 
 /// A remark has no answer.
-fn call(station: &mut Station, field: Field) -> Option<Answer> {
+fn call(station: &mut Station, card: u8, field: Field) -> Option<Answer> {
     match field {
         Field::Offer(Record {
             channel,
             epoch,
             symbols,
         }) => {
-            let answer = station.offer(usize::from(channel), epoch, &symbols);
+            let answer = station.offer(card, usize::from(channel), epoch, &symbols);
             Some(Answer::Offer(answer))
         }
         Field::Reset { channel } => {
-            let answer = station.reset(usize::from(channel));
+            let answer = station.reset(card, usize::from(channel));
             Some(Answer::Reset(answer))
         }
         Field::Remark => None,

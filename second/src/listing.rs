@@ -3,6 +3,7 @@
 use std::io::{self, Read, Write};
 
 use crate::refusal::Refusal;
+use crate::station::card;
 use crate::station::reception::receive;
 use crate::station::row::Taken;
 use crate::station::Station;
@@ -35,7 +36,8 @@ impl Record {
     }
 }
 
-/// Offers each record to a fresh station and prints its line.
+/// Offers each record to a fresh station and prints its line: "the listing speaks for card
+/// one".
 pub fn answer_stream(input: impl Read, output: impl Write) -> io::Result<()> {
     let mut station = Station::default();
     answer_each(input, output, |record| {
@@ -44,15 +46,15 @@ pub fn answer_stream(input: impl Read, output: impl Write) -> io::Result<()> {
 }
 
 /// "Channel, epoch, number (0 if taken), repaired bit (0 if none or number 1..4),
-/// m (0 for 1..5)"; 31 to 33 have the zeros of 3. Then the polarity, "0 or 1, and 0
-/// for refused records".
+/// m (0 for 1..5)"; 31 to 33 have the zeros of 3, and 15 is printed "and then zeros". Then
+/// the polarity, "0 or 1, and 0 for refused records".
 fn line_of_record(station: &mut Station, record: Record) -> String {
     let Record {
         channel,
         epoch,
         symbols,
     } = record;
-    let answer = station.offer(usize::from(channel), epoch, &symbols);
+    let answer = station.offer(card::ONE, usize::from(channel), epoch, &symbols);
     let polarity = answer.map_or(0, |taken| taken.polarity.number());
     let (number, bit, m) = match answer {
         Ok(Taken { m, verdict, .. }) => (0, verdict.repaired_bit(), m),
@@ -67,7 +69,7 @@ fn line_of_record(station: &mut Station, record: Record) -> String {
 /// The repaired bit and m of a refused string, as far as the refusal came after
 /// them.
 fn seen_in_refused(refusal: Refusal, symbols: &[u8]) -> (usize, usize) {
-    if refusal == Refusal::Channel {
+    if matches!(refusal, Refusal::Channel | Refusal::Owner) {
         return (0, 0);
     }
     match receive(symbols) {

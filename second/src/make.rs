@@ -23,7 +23,7 @@ use std::io::{self, Write};
 use crate::listing::Record;
 use crate::random::SplitMix64;
 use crate::request;
-use crate::station::CHANNELS;
+use crate::station::card::CHANNELS_OF_A_CARD;
 use crate::string::BYTES;
 use feed::Feed;
 
@@ -49,6 +49,7 @@ pub fn trial_input(seed: u64) -> Vec<u8> {
             station::summary::add_all,
             numbers::add_all,
             salvage::add_all,
+            station::cards::add_all,
         ],
     )
 }
@@ -72,7 +73,7 @@ fn made_of(seed: u64, parts: &[fn(&mut Input)]) -> Vec<u8> {
 
 /// So many records, written as they are made.
 pub fn write_listing(seed: u64, count: u64, output: &mut impl Write) -> io::Result<()> {
-    let mut feed = Feed::new(seed, CHANNELS as u8);
+    let mut feed = Feed::new(seed, CHANNELS_OF_A_CARD as u8);
     for _ in 0..count {
         let record = feed.next().expect("an endless feed");
         output.write_all(&record.to_bytes())?;

@@ -22,6 +22,10 @@ pub enum Refusal {
     Room,
     Nothing,
     Slot,
+    /// "When the channel is the other card's."
+    Owner,
+    /// "For a card other than one or two."
+    Card,
     /// Names a block's field by the place of its tag byte, counted from 0.
     Field {
         trouble: FieldTrouble,
@@ -104,6 +108,8 @@ impl Refusal {
             Refusal::Room => 12,
             Refusal::Nothing => 13,
             Refusal::Slot => 14,
+            Refusal::Owner => 15,
+            Refusal::Card => 16,
             Refusal::Field { trouble, .. } => trouble.number(),
             Refusal::Full { room, .. } => room.number(),
         }

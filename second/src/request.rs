@@ -1,6 +1,8 @@
 //! Requests to `trial`: one byte op, two bytes big-endian length, then that many
 //! bytes, one request after another.
 
+pub mod card;
+
 pub use crate::framing::append;
 use crate::framing::split_first;
 use crate::words::kinds::{Kind, KINDS};

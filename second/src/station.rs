@@ -1,24 +1,29 @@
-//! The station: 24 channels and one almanac book.
+//! The station: the channels of two cards and one almanac book.
 
 pub mod almanac;
 pub mod book;
+pub mod card;
 pub mod frame;
 pub mod reception;
 pub mod record;
 pub mod row;
 pub mod tallies;
 
+use std::array;
+
 use crate::refusal::Refusal;
 use almanac::shown_entries;
 use book::{Book, Entry, Summary};
+use card::{reach_book, reach_row, CHANNELS_OF_A_CARD};
 use record::ImmediateRecord;
 use row::{News, Row, Taken};
 use tallies::Tallies;
 
-pub const CHANNELS: usize = 24;
+/// Those of card one, then those of card two.
+pub const CHANNELS: usize = 2 * CHANNELS_OF_A_CARD;
 
-/// "A fresh station is all empty."
-#[derive(Clone, Debug, Default, PartialEq, Eq)]
+/// "Every offer, reset, query and block names the asking card", by a number that may be none.
+#[derive(Clone, Debug, PartialEq, Eq)]
 pub struct Station {
     rows: [Row; CHANNELS],
     book: Book,
@@ -32,6 +37,16 @@ pub enum Health {
     NotUsable,
 }
 
+/// "A fresh station is all empty."
+impl Default for Station {
+    fn default() -> Station {
+        Station {
+            rows: array::from_fn(|_| Row::default()),
+            book: Book::default(),
+        }
+    }
+}
+
 impl Station {
     /// Fresh, but that every tally of every channel has this count.
     pub fn with_tallies_at(count: u32) -> Station {
@@ -42,10 +57,15 @@ impl Station {
         station
     }
 
-    /// Order of refusals: 1 to 9, and 31 to 33 in the position of 3.
-    pub fn offer(&mut self, channel: usize, epoch: u32, symbols: &[u8]) -> Result<Taken, Refusal> {
-        let row = self.rows.get_mut(channel).ok_or(Refusal::Channel)?;
-        let taken = row.offer(epoch, symbols)?;
+    /// Order of refusals: 16, 1, 15, then 2 to 9, and 31 to 33 in the position of 3.
+    pub fn offer(
+        &mut self,
+        card: u8,
+        channel: usize,
+        epoch: u32,
+        symbols: &[u8],
+    ) -> Result<Taken, Refusal> {
+        let taken = self.row_to_change(card, channel)?.offer(epoch, symbols)?;
         if taken.news != News::AlreadyHeld {
             self.bring_to_book(channel);
         }
@@ -61,36 +81,42 @@ impl Station {
         }
     }
 
-    /// "A reset empties the row, record and tallies; the book stays."
-    pub fn reset(&mut self, channel: usize) -> Result<(), Refusal> {
-        let row = self.rows.get_mut(channel).ok_or(Refusal::Channel)?;
-        *row = Row::default();
+    /// "A reset empties the row, record and tallies; the book stays." Order of refusals: 16,
+    /// 1, 15.
+    pub fn reset(&mut self, card: u8, channel: usize) -> Result<(), Refusal> {
+        *self.row_to_change(card, channel)? = Row::default();
         Ok(())
     }
 
-    /// Order of refusals: 1, 13.
-    pub fn immediate(&self, channel: usize) -> Result<&ImmediateRecord, Refusal> {
-        self.row(channel)?.record.as_ref().ok_or(Refusal::Nothing)
+    /// Order of refusals: 16, 1, 15, 13.
+    pub fn immediate(&self, card: u8, channel: usize) -> Result<&ImmediateRecord, Refusal> {
+        let record = &self.row(card, channel)?.record;
+        record.as_ref().ok_or(Refusal::Nothing)
     }
 
-    /// Order of refusals: 14, 13.
-    pub fn entry(&self, slot: usize) -> Result<Entry, Refusal> {
+    /// Order of refusals: 16, 14, 13.
+    pub fn entry(&self, card: u8, slot: usize) -> Result<Entry, Refusal> {
+        reach_book(card)?;
         self.book.entry(slot)
     }
 
-    pub fn summary(&self) -> Summary {
-        self.book.summary()
+    /// Refused by 16 alone.
+    pub fn summary(&self, card: u8) -> Result<Summary, Refusal> {
+        reach_book(card)?;
+        Ok(self.book.summary())
     }
 
-    pub fn tallies(&self, channel: usize) -> Result<Tallies, Refusal> {
-        Ok(self.row(channel)?.tallies)
+    /// Order of refusals: 16, 1, 15.
+    pub fn tallies(&self, card: u8, channel: usize) -> Result<Tallies, Refusal> {
+        Ok(self.row(card, channel)?.tallies)
     }
 
     /// "Without a record, or without a book entry for its n, a channel's satellite
     /// is unknown." Otherwise it is usable if the record does not call it unfit and
-    /// the entry has C = 1, as in Table 5.1, "and not usable if either fails".
-    pub fn health(&self, channel: usize) -> Result<Health, Refusal> {
-        let Some(record) = &self.row(channel)?.record else {
+    /// the entry has C = 1, as in Table 5.1, "and not usable if either fails". Order of
+    /// refusals: 16, 1, 15.
+    pub fn health(&self, card: u8, channel: usize) -> Result<Health, Refusal> {
+        let Some(record) = &self.row(card, channel)?.record else {
             return Ok(Health::Unknown);
         };
         let Ok(entry) = self.book.entry(record.satellite) else {
@@ -102,7 +128,13 @@ impl Station {
         }
     }
 
-    fn row(&self, channel: usize) -> Result<&Row, Refusal> {
-        self.rows.get(channel).ok_or(Refusal::Channel)
+    fn row(&self, card: u8, channel: usize) -> Result<&Row, Refusal> {
+        reach_row(card, channel)?;
+        Ok(&self.rows[channel])
+    }
+
+    fn row_to_change(&mut self, card: u8, channel: usize) -> Result<&mut Row, Refusal> {
+        reach_row(card, channel)?;
+        Ok(&mut self.rows[channel])
     }
 }

@@ -10,7 +10,7 @@ mod words;
 
 use crate::refusal::Refusal;
 use crate::request::{self, Piece, Request};
-use crate::station::Station;
+use crate::station::{card, Station};
 use crate::string::BYTES;
 
 type Answer = Result<String, Refusal>;
@@ -46,9 +46,9 @@ fn answers_from(mut station: Station, input: &[u8]) -> impl Iterator<Item = (Pie
     request::pieces(input).map(move |piece| (piece, answer_piece(&mut station, piece)))
 }
 
-/// The lines for one block, of any length, that is handed to a fresh station.
+/// The lines for one block, of any length, that card one hands to a fresh station.
 pub fn answer_block(block: &[u8]) -> String {
-    block::block(&mut Station::default(), block) + "\n"
+    block::block(&mut Station::default(), card::ONE, block) + "\n"
 }
 
 /// The answer to one piece, without the last line feed.
@@ -72,6 +72,29 @@ fn line_of(answer: Answer) -> String {
 
 /// None where there is no such op, or no such payload for it.
 fn call(station: &mut Station, request: Request) -> Option<Answer> {
+    match request.asked_by() {
+        Some((card, asked)) => call_of_card(station, card, asked),
+        None => call_of_no_card(station, request),
+    }
+}
+
+fn call_of_card(station: &mut Station, card: u8, asked: Request) -> Option<Answer> {
+    let payload = asked.payload;
+    match asked.op {
+        request::OFFER => station::offer(station, card, payload),
+        request::RESET => station::reset(station, card, payload),
+        request::IMMEDIATE => station::immediate(station, card, payload),
+        request::ENTRY => station::entry(station, card, payload),
+        request::TALLIES => station::tallies(station, card, payload),
+        request::HEALTH => station::health(station, card, payload),
+        request::BLOCK => Some(Ok(block::block(station, card, payload))),
+        request::SUMMARY => station::summary(station, card, payload),
+        request::ENTRY_WORDS => station::entry_words(station, card, payload),
+        _ => None,
+    }
+}
+
+fn call_of_no_card(station: &mut Station, request: Request) -> Option<Answer> {
     let payload = request.payload;
     match request.op {
         request::FROM_RELATIVE => strings::from_relative(payload),
@@ -79,19 +102,10 @@ fn call(station: &mut Station, request: Request) -> Option<Answer> {
         request::CHECK => strings::check(payload),
         request::READ => words::read(payload),
         request::WRITE => words::write(payload),
-        request::OFFER => station::offer(station, payload),
-        request::RESET => station::reset(station, payload),
-        request::IMMEDIATE => station::immediate(station, payload),
-        request::ENTRY => station::entry(station, payload),
-        request::TALLIES => station::tallies(station, payload),
-        request::HEALTH => station::health(station, payload),
         request::FRESH => station::fresh(station, payload),
-        request::BLOCK => Some(Ok(block::block(station, payload))),
-        request::SUMMARY => station::summary(station, payload),
         request::WORD_AS_FLOAT => host::word(payload),
         request::FOUR_STRINGS => host::record(payload),
         request::SALVAGE => salvage::salvage(payload),
-        request::ENTRY_WORDS => station::entry_words(station, payload),
         _ => None,
     }
 }

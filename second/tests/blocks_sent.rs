@@ -130,7 +130,7 @@ fn refused_calls_stop_nothing() {
         neighbours.any(|pair| pair[0] == refused && pair[1].starts_with("taken"))
     };
     let goes_on_after_all = |lines: &[String]| {
-        let mut numbers = [1, 2, 31, 32, 33].into_iter().chain(4..=9);
+        let mut numbers = [15, 2, 31, 32, 33].into_iter().chain(4..=9);
         numbers.all(|number| goes_on_after(lines, number))
     };
     let ends = |lines: &[String]| lines.last().unwrap() == "end";
@@ -162,7 +162,8 @@ fn calls_of_every_kind_are_in_blocks() {
 #[test]
 fn blocks_are_followed_by_queries() {
     let input = make::trial_input(20260);
-    let ops: Vec<u8> = whole_requests(&input).map(|request| request.op).collect();
+    let asked = |request: Request| request.asked_by().map_or(request.op, |(_, asked)| asked.op);
+    let ops: Vec<u8> = whole_requests(&input).map(asked).collect();
     let after_blocks = ops.windows(2).filter(|pair| pair[0] == BLOCK);
     let asked: HashSet<u8> = after_blocks.map(|pair| pair[1]).collect();
     assert!(asked.is_subset(&HashSet::from([BLOCK, IMMEDIATE, TALLIES, SUMMARY])));
@@ -197,7 +198,7 @@ fn the_made_block_follows_from_its_seed_and_ends_with_a_refused_field() {
     assert!(remarks > 100);
     assert_eq!(lines.len(), 4000 - remarks + 1);
     assert!(whole_fields(&block[place..]).len() > 10);
-    for wanted in ["ok", "no 1", "no 2", "no 9"] {
+    for wanted in ["ok", "no 1", "no 15", "no 2", "no 9"] {
         assert!(lines.iter().any(|line| line == wanted), "{wanted}");
     }
 }

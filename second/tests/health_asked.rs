@@ -5,6 +5,7 @@ use std::collections::{HashMap, HashSet};
 
 use second::make;
 use second::request::{pieces, Piece, Request, BLOCK, FRESH, HEALTH, OFFER, RESET};
+use second::station::card::ONE;
 use second::station::reception::receive;
 use second::station::Station;
 use second::string::NavString;
@@ -47,15 +48,16 @@ fn flags_of(words: &[i64]) -> Flags {
     }
 }
 
-fn asked(station: &Station, heard: &Heard, channel: u8, line: String) -> Asked {
-    let words = station.immediate(usize::from(channel)).ok();
+/// By the card that the channel belongs to.
+fn asked(station: &Station, heard: &Heard, card: u8, channel: u8, line: String) -> Asked {
+    let words = station.immediate(card, usize::from(channel)).ok();
     let words = words.map(|record| record.words.as_slice());
     let value_heard = |m: usize, word: &Word| {
         let string = heard.get(&(channel, m));
         string.map(|string| word.value_in(string))
     };
     let n = words.map(|words| words[N]).or(value_heard(4, &SATELLITE));
-    let entry = n.and_then(|n| station.entry(n as usize).ok());
+    let entry = n.and_then(|n| station.entry(card, n as usize).ok());
     Asked {
         record: words.map(flags_of),
         c: entry.map(|entry| entry.words()[0]),
@@ -69,18 +71,19 @@ fn all_asked() -> HashSet<Asked> {
     let mut found = HashSet::new();
     for piece in pieces(&make::trial_input(20260)) {
         let line = answer_piece(&mut station, piece);
-        let Piece::Whole(Request { op, payload }) = piece else {
+        let Piece::Whole(request) = piece else {
             continue;
         };
+        let (card, Request { op, payload }) = request.asked_by().unwrap_or((ONE, request));
         match (op, payload) {
             (OFFER, [channel, _, _, _, _, symbols @ ..]) if line.starts_with("taken") => {
                 let string = receive(symbols).unwrap().string;
                 heard.insert((*channel, string.m()), string);
             }
-            (RESET, [reset]) => heard.retain(|(channel, _), _| channel != reset),
+            (RESET, [reset]) if line == "ok" => heard.retain(|(channel, _), _| channel != reset),
             (FRESH, []) | (BLOCK, _) => heard.clear(),
-            (HEALTH, [channel]) => {
-                found.insert(asked(&station, &heard, *channel, line));
+            (HEALTH, [channel]) if line.starts_with("ok ") => {
+                found.insert(asked(&station, &heard, card, *channel, line));
             }
             _ => (),
         }

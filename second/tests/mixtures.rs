@@ -106,7 +106,7 @@ fn each_cause_stands_between_the_refusals_before_and_after_it() {
     let calls = [
         (CHECK, &[12, 2][..], &[4][..]),
         (READ, &[2], &[4, 5, 11, 10]),
-        (OFFER, &[1, 2], &[5, 6, 7, 8, 9]),
+        (OFFER, &[15, 2], &[5, 6, 7, 8, 9]),
     ];
     for (op, before, after) in calls {
         for cause in [31, 32, 33] {

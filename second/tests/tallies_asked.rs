@@ -111,7 +111,7 @@ fn sorts_by_channel(answers: &[(Piece, String)]) -> HashMap<u8, HashMap<String, 
 fn the_input_for_the_limit_has_every_sort_on_a_channel_each_and_all_on_one() {
     let input = make::limit_input();
     let answers: Vec<(Piece, String)> = trial::answers_near_the_limit(&input).collect();
-    assert!((200..1000).contains(&answers.len()), "{}", answers.len());
+    assert!((200..2000).contains(&answers.len()), "{}", answers.len());
     let channels = sorts_by_channel(&answers);
     for sort in SORTS {
         let count = |sorts: &HashMap<String, usize>| sorts.get(sort).copied().unwrap_or(0);
@@ -157,4 +157,56 @@ fn the_input_for_the_limit_leads_every_tally_there_and_from_zero_again() {
         }
     }
     require_all_different(&asked);
+}
+
+/// The tallies of the 48 channels, asked by their cards, until a fresh station is asked for:
+/// the channel, whether something was offered to it before, and the counts.
+fn asked_before_the_fresh_station(answers: &[(Piece, String)]) -> Vec<(u8, bool, Counts)> {
+    let (mut offered, mut asked) = (HashSet::new(), Vec::new());
+    for (piece, line) in answers {
+        let Piece::Whole(request) = piece else {
+            continue;
+        };
+        if request.op == FRESH {
+            break;
+        }
+        let Some((_, Request { op, payload })) = request.asked_by() else {
+            continue;
+        };
+        match (op, counts_in(line)) {
+            (OFFER, _) => {
+                offered.insert(payload[0]);
+            }
+            (TALLIES, Some(counts)) => {
+                asked.push((payload[0], offered.contains(&payload[0]), counts));
+            }
+            _ => (),
+        }
+    }
+    asked
+}
+
+/// Each row is asked for before anything is offered to it; and every row of card two is led to
+/// the limit, and every tally in some of them.
+#[test]
+fn the_input_for_the_limit_shows_all_48_rows_near_it() {
+    let input = make::limit_input();
+    let answers: Vec<(Piece, String)> = trial::answers_near_the_limit(&input).collect();
+    let asked = asked_before_the_fresh_station(&answers);
+    for channel in 0..48 {
+        assert!(asked.contains(&(channel, false, [START; 14])), "{channel}");
+    }
+    let of_card_two = asked.iter().filter(|(channel, ..)| *channel >= 24);
+    let mut at_the_limit = HashSet::new();
+    for (channel, _, counts) in of_card_two {
+        let tallies = (0..14).filter(|&tally| counts[tally] == LIMIT);
+        at_the_limit.extend(tallies.map(|tally| (*channel, tally)));
+    }
+    for channel in 24..48 {
+        assert!(at_the_limit.contains(&(channel, 0)), "{channel}");
+    }
+    for tally in 0..14 {
+        let channels = at_the_limit.iter().filter(|(_, other)| *other == tally);
+        assert!(channels.count() >= 2, "{tally}");
+    }
 }

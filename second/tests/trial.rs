@@ -198,7 +198,7 @@ fn an_offer_prints_m_repaired_bit_news_and_polarity() {
     ];
     assert_eq!(
         answers(&wrong),
-        ["taken 1 0 1 0", "taken 1 0 0 0", "no 7", "no 1"]
+        ["taken 1 0 1 0", "taken 1 0 0 0", "no 7", "no 15"]
     );
 }
 
@@ -256,7 +256,7 @@ fn a_reset_and_a_fresh_station_print_ok() {
     let taken = "taken 1 0 1 0";
     assert_eq!(
         answers(&requests),
-        [taken, counted, "ok", empty, taken, "ok", empty, "no 1"]
+        [taken, counted, "ok", empty, taken, "ok", empty, "no 15"]
     );
 }
 
@@ -355,7 +355,7 @@ fn a_block_prints_the_lines_of_its_calls_and_how_it_ended() {
     let remark = [3, 0, 2, 1, 0];
     let [reset_of_0, reset_of_24] = [[2, 0, 1, 0], [2, 0, 1, 24]];
     let first = [&field_of_b(0, 100)[..], &remark, &field_of_b(0, 99)].concat();
-    let next = [&reset_of_24[..], &field_of_b(24, 100), &reset_of_0].concat();
+    let next = [&reset_of_24[..], &field_of_b(48, 100), &reset_of_0].concat();
     let requests = [
         (BLOCK, first),
         (TALLIES, vec![0]),
@@ -369,7 +369,7 @@ fn a_block_prints_the_lines_of_its_calls_and_how_it_ended() {
         "no 7",
         "end",
         "ok 2 1 0 1 0 0 0 0 0 0 0 1 0 0",
-        "no 1",
+        "no 15",
         "no 1",
         "ok",
         "end",
@@ -437,16 +437,19 @@ fn a_file_of_more_than_96_bytes_is_bad() {
 fn queries_of_nothing_and_nowhere() {
     for (op, which, line) in [
         (IMMEDIATE, 0, "no 13\n"),
-        (IMMEDIATE, 24, "no 1\n"),
+        (IMMEDIATE, 24, "no 15\n"),
+        (IMMEDIATE, 48, "no 1\n"),
         (ENTRY, 1, "no 13\n"),
         (ENTRY, 0, "no 14\n"),
         (ENTRY, 25, "no 14\n"),
         (ENTRY_WORDS, 1, "no 13\n"),
         (ENTRY_WORDS, 0, "no 14\n"),
         (ENTRY_WORDS, 25, "no 14\n"),
-        (TALLIES, 24, "no 1\n"),
+        (TALLIES, 24, "no 15\n"),
+        (TALLIES, 48, "no 1\n"),
         (HEALTH, 0, "ok 0\n"),
-        (HEALTH, 24, "no 1\n"),
+        (HEALTH, 24, "no 15\n"),
+        (HEALTH, 48, "no 1\n"),
     ] {
         assert_eq!(answer_payload(op, &[which]), line);
     }
@@ -604,4 +607,19 @@ fn the_sample_fills_the_book() {
         };
         assert!(line.starts_with(day), "slot {slot}: {line}");
     }
+}
+
+#[test]
+fn the_sample_has_a_second_card() {
+    let lines = trial::answer_input(&make::sample_for_trial());
+    let lines: Vec<&str> = lines.lines().collect();
+    let before_the_book = lines.len() - 25;
+    let [record, tallies, health, others_record] = lines[before_the_book - 4..before_the_book]
+    else {
+        panic!("four lines");
+    };
+    assert!(record.starts_with("ok "), "{record}");
+    assert_eq!(tallies, format!("ok 4 4{}", " 0".repeat(12)));
+    assert_eq!(health, "ok 1");
+    assert_eq!(others_record, "no 15");
 }

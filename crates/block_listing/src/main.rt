@@ -1,5 +1,5 @@
-// One block from standard input, of any length, handed to a fresh station: a line for each of its calls,
-// and one for its end.
+// One block from standard input, of any length, handed to a fresh station by card one: a line for each
+// of its calls, and one for its end.
 fn main() {
     requests::list_block();
 }

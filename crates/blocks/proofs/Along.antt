@@ -42,55 +42,58 @@ by-told Remark tag l p = ap (λ (k : ℕ). pick (eqb k 1) (l ∷ []) (pick (eqb 
 by-told (Refused why place) tag l p = absurd (no-number why (ap (λ (x : List ℕ). getD x 0 0) p))
 
 -- by its calls, of which there is one at most
-by-calls : (st : Station) (a b : Bool) (x y : Call)
-    → pick a (answerAmong st (pick a (x ∷ []) (pick b (y ∷ []) [])) ∷ []) (pick b (answerAmong st (pick a (x ∷ []) (pick b (y ∷ []) [])) ∷ []) [])
-    ≡ answersTo st (pick a (x ∷ []) (pick b (y ∷ []) []))
+by-calls : (st : Station) (card : ℕ) (a b : Bool) (x y : Call)
+    → pick a (answerAmong st card (pick a (x ∷ []) (pick b (y ∷ []) [])) ∷ []) (pick b (answerAmong st card (pick a (x ∷ []) (pick b (y ∷ []) [])) ∷ []) [])
+    ≡ answersTo st card (pick a (x ∷ []) (pick b (y ∷ []) []))
 unfolding answersTo
-by-calls st true b x y = refl
-by-calls st false true x y = refl
-by-calls st false false x y = refl
+by-calls st card true b x y = refl
+by-calls st card false true x y = refl
+by-calls st card false false x y = refl
 
-module _ {st : Station} {block : List ℕ} {at : ℕ} {r : Taken} (t : Takes st block at r) where
-  pub answers-are : isGood (drop at block) ≡ true → answersIn (r .told) ≡ answersTo st (callsAt block at)
+module _ {st : Station} {card : ℕ} {block : List ℕ} {at : ℕ} {r : Taken} (t : Takes st card block at r) where
+  pub answers-are : isGood (drop at block) ≡ true → answersIn (r .told) ≡ answersTo st card (callsAt block at)
   unfolding callIn
   answers-are e =
       let rest = drop at block in
-      by-told (r .told) (tagIn rest) (answerAmong st (callIn rest)) (t .answer ∙ says-call st block at e)
-      ∙ by-calls st (eqb (tagIn rest) 1) (eqb (tagIn rest) 2) (offerOf (bodyIn rest)) (resetOf (bodyIn rest))
-      ∙ ap (answersTo st) (sym (calls-where block at e))
+      by-told (r .told) (tagIn rest) (answerAmong st card (callIn rest)) (t .answer ∙ says-call st card block at e)
+      ∙ by-calls st card (eqb (tagIn rest) 1) (eqb (tagIn rest) 2) (offerOf (bodyIn rest)) (resetOf (bodyIn rest))
+      ∙ ap (answersTo st card) (sym (calls-where block at e))
 
 -- ---- along a block, from a place on
-pub record FromThere (st : Station) (block : List ℕ) (at : ℕ) (answers : List (List ℕ)) (last : Station) (ended : Ended) : Type 0 where
-  pub same-answers : answers ≡ answersTo st (from block at)
-  pub same-station : last ≡ afterCalls st (from block at)
+pub record FromThere (st : Station) (card : ℕ) (block : List ℕ) (at : ℕ) (answers : List (List ℕ)) (last : Station) (ended : Ended) : Type 0 where
+  pub same-answers : answers ≡ answersTo st card (from block at)
+  pub same-station : last ≡ afterCalls st card (from block at)
   pub end : endedPaper ended ≡ endFrom block at
 
-pub from-there : (block : List ℕ) (st : Station) (at : ℕ) (answers : List (List ℕ)) (last : Station) (ended : Ended) → Along block st at answers last ended
-    → FromThere st block at answers last ended
+pub from-there : (card : ℕ) (block : List ℕ) (st : Station) (at : ℕ) (answers : List (List ℕ)) (last : Station) (ended : Ended)
+    → Along card block st at answers last ended
+    → FromThere st card block at answers last ended
 unfolding answersTo
-from-there block st at answers last ended (Stop s k r t h) =
+from-there card block st at answers last ended (Stop s k r t h) =
     let m = stops t h in
     record {
-      same-answers = sym (ap (answersTo s) (m .calls));
-      same-station = t .station ∙ ap (afterCalls s) (m .none ∙ sym (m .calls));
+      same-answers = sym (ap (answersTo s card) (m .calls));
+      same-station = t .station ∙ ap (afterCalls s card) (m .none ∙ sym (m .calls));
       end = m .end;
     }
-from-there block st at answers last ended (Go s k r more l e t n along) =
+from-there card block st at answers last ended (Go s k r more l e t n along) =
     let m = moves t n in
-    let w = from-there block (r .station) (r .after) more l e along in
+    let w = from-there card block (r .station) (r .after) more l e along in
     let c = callsAt block k in
     let d = from block (r .after) in
     record {
-      same-answers = ap₂ _++_ (answers-are t (m .good)) (w .same-answers ∙ ap (λ (x : Station). answersTo x d) (t .station)) ∙ sym (answers-append s c d)
-          ∙ ap (answersTo s) (sym (m .calls));
-      same-station = w .same-station ∙ ap (λ (x : Station). afterCalls x d) (t .station) ∙ sym (after-append s c d) ∙ ap (afterCalls s) (sym (m .calls));
+      same-answers = ap₂ _++_ (answers-are t (m .good)) (w .same-answers ∙ ap (λ (x : Station). answersTo x card d) (t .station))
+          ∙ sym (answers-append s card c d)
+          ∙ ap (answersTo s card) (sym (m .calls));
+      same-station = w .same-station ∙ ap (λ (x : Station). afterCalls x card d) (t .station) ∙ sym (after-append s card c d)
+          ∙ ap (afterCalls s card) (sym (m .calls));
       end = w .end ∙ sym (m .end);
     }
 
-pub as-calls : (st : Station) (block : List ℕ) (answers : List (List ℕ)) (last : Station) (ended : Ended) → Along block st 0 answers last ended
-    → AsCalls st block answers last ended
-as-calls st block answers last ended along =
-    let w = from-there block st 0 answers last ended along in
+pub as-calls : (st : Station) (card : ℕ) (block : List ℕ) (answers : List (List ℕ)) (last : Station) (ended : Ended) → Along card block st 0 answers last ended
+    → AsCalls st card block answers last ended
+as-calls st card block answers last ended along =
+    let w = from-there card block st 0 answers last ended along in
     record { same-answers = w .same-answers; same-station = w .same-station; end = w .end }
 
 -- ---- every field has an answer
@@ -99,28 +102,28 @@ record Telling (said : List ℕ) : Type 0 where
   says : toldPaper told ≡ said
 
 -- a good field, by its tag
-offered : (st : Station) (body : List ℕ) → Telling (0 ∷ 1 ∷ answerIn st (offerOf body))
+offered : (st : Station) (card : ℕ) (body : List ℕ) → Telling (0 ∷ 1 ∷ answerIn st card (offerOf body))
 unfolding answerIn
-offered st body =
-    let a = some-answer st (channelIn body) (epochIn body) (symbolsIn body) in
+offered st card body =
+    let a = some-answer st card (channelIn body) (epochIn body) (symbolsIn body) in
     record { told = Offered (a .answer); says = ap (λ (l : List ℕ). 0 ∷ 1 ∷ l) (a .is) }
 
-emptied : (st : Station) (body : List ℕ) → Telling (0 ∷ 2 ∷ answerIn st (resetOf body))
+emptied : (st : Station) (card : ℕ) (body : List ℕ) → Telling (0 ∷ 2 ∷ answerIn st card (resetOf body))
 unfolding answerIn
-emptied st body =
+emptied st card body =
     let c = channelIn body in
-    record { told = Emptied (reset-answer c); says = ap (λ (l : List ℕ). 0 ∷ 2 ∷ l) (reset-answers st c .answer) }
+    record { told = Emptied (reset-answer card c); says = ap (λ (l : List ℕ). 0 ∷ 2 ∷ l) (reset-answers st card c .answer) }
 
-by-tag : (st : Station) (rest : List ℕ) → isUnknown (tagIn rest) ≡ false → Telling (0 ∷ tagIn rest ∷ answerAmong st (callIn rest))
+by-tag : (st : Station) (card : ℕ) (rest : List ℕ) → isUnknown (tagIn rest) ≡ false → Telling (0 ∷ tagIn rest ∷ answerAmong st card (callIn rest))
 unfolding callIn
-by-tag st rest known = by (eqb (tagIn rest) 1) (eqb (tagIn rest) 2) refl refl
+by-tag st card rest known = by (eqb (tagIn rest) 1) (eqb (tagIn rest) 2) refl refl
   where
     by : (a b : Bool) → eqb (tagIn rest) 1 ≡ a → eqb (tagIn rest) 2 ≡ b
-        → Telling (0 ∷ tagIn rest ∷ answerAmong st (pick a (offerOf (bodyIn rest) ∷ []) (pick b (resetOf (bodyIn rest) ∷ []) [])))
+        → Telling (0 ∷ tagIn rest ∷ answerAmong st card (pick a (offerOf (bodyIn rest) ∷ []) (pick b (resetOf (bodyIn rest) ∷ []) [])))
     by true b p q =
-        subst (λ (k : ℕ). Telling (0 ∷ k ∷ answerIn st (offerOf (bodyIn rest)))) (sym (eqb-true (tagIn rest) 1 p)) (offered st (bodyIn rest))
+        subst (λ (k : ℕ). Telling (0 ∷ k ∷ answerIn st card (offerOf (bodyIn rest)))) (sym (eqb-true (tagIn rest) 1 p)) (offered st card (bodyIn rest))
     by false true p q =
-        subst (λ (k : ℕ). Telling (0 ∷ k ∷ answerIn st (resetOf (bodyIn rest)))) (sym (eqb-true (tagIn rest) 2 q)) (emptied st (bodyIn rest))
+        subst (λ (k : ℕ). Telling (0 ∷ k ∷ answerIn st card (resetOf (bodyIn rest)))) (sym (eqb-true (tagIn rest) 2 q)) (emptied st card (bodyIn rest))
     by false false p q =
         record { told = Remark; says = ap (λ (k : ℕ). 0 ∷ k ∷ []) (sym (third (tagIn rest) known (eqb-false (tagIn rest) 1 p) (eqb-false (tagIn rest) 2 q))) }
 
@@ -132,19 +135,19 @@ by-tests false true c at l e = record { told = Refused Tag at; says = refl }
 by-tests false false true at l e = record { told = Refused Length at; says = refl }
 by-tests false false false at l e = absurd (true≢false e)
 
-module _ (st : Station) (block : List ℕ) (at : ℕ) where
+module _ (st : Station) (card : ℕ) (block : List ℕ) (at : ℕ) where
   abbrev rest : List ℕ
   rest = drop at block
 
   abbrev its : List ℕ
-  its = tagIn rest ∷ answerAmong st (callIn rest)
+  its = tagIn rest ∷ answerAmong st card (callIn rest)
 
   before-end : (b : Bool) → isGood rest ≡ b → Telling (answerOf (testsIn at rest) its)
   unfolding isGood
-  before-end true e = subst Telling (sym (good-tells at rest its e)) (by-tag st rest (good-parts rest e .known))
+  before-end true e = subst Telling (sym (good-tells at rest its e)) (by-tag st card rest (good-parts rest e .known))
   before-end false e = by-tests (isCut (lengthIn rest) (length rest)) (isUnknown (tagIn rest)) (isWrong (tagIn rest) (lengthIn rest)) at its e
 
-  some-told : Telling (fieldSays st block at)
+  some-told : Telling (fieldSays st card block at)
   unfolding fieldSays
   some-told = by (leb (length block) at)
     where
@@ -153,22 +156,22 @@ module _ (st : Station) (block : List ℕ) (at : ℕ) where
       by false = before-end (isGood rest) refl
 
   pub taken : Taken
-  taken = record { station = afterCalls st (callsAt block at); told = some-told .told; after = at + sizeAt block at }
+  taken = record { station = afterCalls st card (callsAt block at); told = some-told .told; after = at + sizeAt block at }
 
-  pub takes : Takes st block at taken
+  pub takes : Takes st card block at taken
   unfolding taken
   takes = record { answer = some-told .says; station = refl; next = refl }
 
 -- ---- and every block can be passed
-one-field : (st : Station) (block : List ℕ) (at : ℕ)
-    → ((taken st block at .after ≡ at → ⊥) → Passed (taken st block at .station) block (taken st block at .after)) → Passed st block at
-one-field st block at go = by (eqb (r .after) at) refl
+one-field : (st : Station) (card : ℕ) (block : List ℕ) (at : ℕ)
+    → ((taken st card block at .after ≡ at → ⊥) → Passed (taken st card block at .station) card block (taken st card block at .after)) → Passed st card block at
+one-field st card block at go = by (eqb (r .after) at) refl
   where
     r : Taken
-    r = taken st block at
+    r = taken st card block at
 
-    by : (b : Bool) → eqb (r .after) at ≡ b → Passed st block at
-    by true e = record { answers = []; last = r .station; ended = endedBy (r .told); along = Stop st at r (takes st block at) (eqb-true (r .after) at e) }
+    by : (b : Bool) → eqb (r .after) at ≡ b → Passed st card block at
+    by true e = record { answers = []; last = r .station; ended = endedBy (r .told); along = Stop st at r (takes st card block at) (eqb-true (r .after) at e) }
     by false e =
         let n = eqb-false (r .after) at e in
         let w = go n in
@@ -176,15 +179,15 @@ one-field st block at go = by (eqb (r .after) at) refl
           answers = answersIn (r .told) ++ w .answers;
           last = w .last;
           ended = w .ended;
-          along = Go st at r (w .answers) (w .last) (w .ended) (takes st block at) n (w .along);
+          along = Go st at r (w .answers) (w .last) (w .ended) (takes st card block at) n (w .along);
         }
 
-pass : (block : List ℕ) (k : ℕ) (st : Station) (at : ℕ) → length block - at ≤ k → Passed st block at
-pass block zero st at h = one-field st block at (λ n. let m = moves (takes st block at) n in absurd (omega (arith, m .forward, m .within)))
-pass block (suc k) st at h =
-    one-field st block at (λ n.
-    let m = moves (takes st block at) n in
-    pass block k (taken st block at .station) (taken st block at .after) (omega (arith, m .forward, m .within)))
+pass : (card : ℕ) (block : List ℕ) (k : ℕ) (st : Station) (at : ℕ) → length block - at ≤ k → Passed st card block at
+pass card block zero st at h = one-field st card block at (λ n. let m = moves (takes st card block at) n in absurd (omega (arith, m .forward, m .within)))
+pass card block (suc k) st at h =
+    one-field st card block at (λ n.
+    let m = moves (takes st card block at) n in
+    pass card block k (taken st card block at .station) (taken st card block at .after) (omega (arith, m .forward, m .within)))
 
-pub passes : (st : Station) (block : List ℕ) → Passed st block 0
-passes st block = pass block (length block) st 0 (omega arith)
+pub passes : (st : Station) (card : ℕ) (block : List ℕ) → Passed st card block 0
+passes st card block = pass card block (length block) st 0 (omega arith)

@@ -124,9 +124,9 @@ module _ (block : List ℕ) (at : ℕ) where
     room : at + 3 + lengthIn (drop at block) ≤ length block
     room = omega (arith, parts .whole, length-drop at block, g .before)
 
-    says-good : (st : Station) → fieldSays st block at ≡ 0 ∷ tagIn (drop at block) ∷ answerAmong st (callIn (drop at block))
+    says-good : (st : Station) (card : ℕ) → fieldSays st card block at ≡ 0 ∷ tagIn (drop at block) ∷ answerAmong st card (callIn (drop at block))
     unfolding fieldSays
-    says-good st =
+    says-good st card =
         let rest = drop at block in
         rw (lt-leb (length block) at (g .before), le-ltb (length rest) (3 + lengthIn rest) (parts .whole), parts .known, parts .right)
 
@@ -152,41 +152,42 @@ module _ (block : List ℕ) (at : ℕ) where
 abbrev pub Left : Station → Told → ℕ → Taken → Type 0
 Left st told after r = (r .station ≡ st) × ((r .told ≡ told) × (r .after ≡ after))
 
-no-calls : (st : Station) (calls : List Call) → calls ≡ [] → st ≡ afterCalls st calls
+no-calls : (st : Station) (card : ℕ) (calls : List Call) → calls ≡ [] → st ≡ afterCalls st card calls
 unfolding afterCalls
-no-calls st calls e = sym (ap (afterCalls st) e)
+no-calls st card calls e = sym (ap (afterCalls st card) e)
 
-one-call : (st : Station) (call : Call) (calls : List Call) → calls ≡ call ∷ [] → afterCall st call ≡ afterCalls st calls
+one-call : (st : Station) (card : ℕ) (call : Call) (calls : List Call) → calls ≡ call ∷ [] → afterCall st card call ≡ afterCalls st card calls
 unfolding afterCalls
-one-call st call calls e = sym (ap (afterCalls st) e)
+one-call st card call calls e = sym (ap (afterCalls st card) e)
 
 none-empty : isGood [] ≡ false
 unfolding isGood
 none-empty = refl
 
 -- an offer's answer and station, as the code reads its bytes
-pub makes-offer : (st : Station) (body : List ℕ) {c epoch after : ℕ} {s : List ℕ} (r : Stepped) → c ≡ channelIn body → epoch ≡ epochIn body
-    → s ≡ symbolsIn body → OffersTo st c epoch s r → Makes st (offerOf body) after (record { station = r .station; told = Offers (r .answer); after = after })
+pub makes-offer : (st : Station) (card : ℕ) (body : List ℕ) {c epoch after : ℕ} {s : List ℕ} (r : Stepped) → c ≡ channelIn body → epoch ≡ epochIn body
+    → s ≡ symbolsIn body → OffersTo st card c epoch s r
+    → Makes st card (offerOf body) after (record { station = r .station; told = Offers (r .answer); after = after })
 unfolding answerIn afterCall
-makes-offer st body {c} {epoch} {after} {s} r p q w o =
+makes-offer st card body {c} {epoch} {after} {s} r p q w o =
     let e : Offer c epoch s ≡ offerOf body =
     ap (λ (k : ℕ). Offer k epoch s) p ∙ ap (λ (k : ℕ). Offer (channelIn body) k s) q ∙ ap (Offer (channelIn body) (epochIn body)) w in
     record {
-      answer = ap (λ (l : List ℕ). 0 ∷ 1 ∷ l) (o .answer) ∙ ap (λ (x : Call). 0 ∷ 1 ∷ answerIn st x) e;
-      station = o .station ∙ ap (afterCall st) e;
+      answer = ap (λ (l : List ℕ). 0 ∷ 1 ∷ l) (o .answer) ∙ ap (λ (x : Call). 0 ∷ 1 ∷ answerIn st card x) e;
+      station = o .station ∙ ap (afterCall st card) e;
       next = refl;
     }
 
 -- a field's number, which is 0 at the end of the block and else its tag, and the calls that it makes
 pub record Leads (block : List ℕ) (at told : ℕ) (made : List Call) : Type 0 where
-  pub says : (st : Station) → fieldSays st block at ≡ 0 ∷ told ∷ answerAmong st made
+  pub says : (st : Station) (card : ℕ) → fieldSays st card block at ≡ 0 ∷ told ∷ answerAmong st card made
   pub calls : callsAt block at ≡ made
 
 module _ {block : List ℕ} {at after : ℕ} {f : Field} (found : Finds block at f after) where
   leads-good : {tag : ℕ} {made : List Call} → GoodAt block at tag → callIn (drop at block) ≡ made → Leads block at tag made
   leads-good g n =
       record {
-        says = λ st. says-good block at g st ∙ ap₂ (λ (k : ℕ) (cs : List Call). 0 ∷ k ∷ answerAmong st cs) (g .its-tag) n;
+        says = λ st card. says-good block at g st card ∙ ap₂ (λ (k : ℕ) (cs : List Call). 0 ∷ k ∷ answerAmong st card cs) (g .its-tag) n;
         calls = calls-good block at g ∙ n;
       }
 
@@ -246,7 +247,7 @@ module _ {block : List ℕ} {at after : ℕ} {f : Field} (found : Finds block at
   leads-end e =
       let h = end-there block at (ap fieldPaper (sym e) ∙ found .answer) in
       record {
-        says = λ st. rw (le-leb (length block) at h);
+        says = λ st card. rw (le-leb (length block) at h);
         calls = none-where block at (ap isGood (drop-of-length-le block h) ∙ none-empty);
       }
 
@@ -257,40 +258,40 @@ module _ {block : List ℕ} {at after : ℕ} {f : Field} (found : Finds block at
       leads-good g (rw (g .its-tag))
 
   module _ (why : Why) (place : ℕ) (e : f ≡ Refused why place) where
-    pub says-refused : (st : Station) → fieldSays st block at ≡ whyNumber why ∷ place ∷ []
+    pub says-refused : (st : Station) (card : ℕ) → fieldSays st card block at ≡ whyNumber why ∷ place ∷ []
     unfolding fieldSays
-    says-refused st =
-        let told = tagIn (drop at block) ∷ answerAmong st (callIn (drop at block)) in
+    says-refused st card =
+        let told = tagIn (drop at block) ∷ answerAmong st card (callIn (drop at block)) in
         sym (refused-there block at why (place ∷ []) told (ap fieldPaper (sym e) ∙ found .answer) .0)
 
     pub none-refused : callsAt block at ≡ []
     none-refused = none-where block at (refused-there block at why (place ∷ []) [] (ap fieldPaper (sym e) ∙ found .answer) .1)
 
   -- so a field is taken
-  module _ {st : Station} {r : Taken} where
-    takes-call : {call : Call} → Leads block at (tagOf call) (call ∷ []) → Makes st call after r → Takes st block at r
+  module _ {st : Station} {card : ℕ} {r : Taken} where
+    takes-call : {call : Call} → Leads block at (tagOf call) (call ∷ []) → Makes st card call after r → Takes st card block at r
     takes-call {call} l m =
         record {
-          answer = m .answer ∙ sym (l .says st);
-          station = m .station ∙ one-call st call (callsAt block at) (l .calls);
+          answer = m .answer ∙ sym (l .says st card);
+          station = m .station ∙ one-call st card call (callsAt block at) (l .calls);
           next = m .next ∙ found .next;
         }
 
-    takes-none : {told : Told} → callsAt block at ≡ [] → toldPaper told ≡ fieldSays st block at → Left st told after r → Takes st block at r
+    takes-none : {told : Told} → callsAt block at ≡ [] → toldPaper told ≡ fieldSays st card block at → Left st told after r → Takes st card block at r
     takes-none n e l =
-        record { answer = ap toldPaper (l .1 .0) ∙ e; station = l .0 ∙ no-calls st (callsAt block at) n; next = l .1 .1 ∙ found .next }
+        record { answer = ap toldPaper (l .1 .0) ∙ e; station = l .0 ∙ no-calls st card (callsAt block at) n; next = l .1 .1 ∙ found .next }
 
-    pub takes-offer : (body : ℕ) → f ≡ OfferAt body → Makes st (offerOf (take (body + 16 - body) (drop body block))) after r → Takes st block at r
+    pub takes-offer : (body : ℕ) → f ≡ OfferAt body → Makes st card (offerOf (take (body + 16 - body) (drop body block))) after r → Takes st card block at r
     takes-offer body e = takes-call (leads-offer body e)
 
-    pub takes-reset : (body : ℕ) → f ≡ ResetAt body → Makes st (Reset (getD block body 0)) after r → Takes st block at r
+    pub takes-reset : (body : ℕ) → f ≡ ResetAt body → Makes st card (Reset (getD block body 0)) after r → Takes st card block at r
     takes-reset body e = takes-call (leads-reset body e)
 
-    pub takes-end : f ≡ End → Left st Ends after r → Takes st block at r
-    takes-end e = let l = leads-end e in takes-none (l .calls) (sym (l .says st))
+    pub takes-end : f ≡ End → Left st Ends after r → Takes st card block at r
+    takes-end e = let l = leads-end e in takes-none (l .calls) (sym (l .says st card))
 
-    pub takes-remark : f ≡ Remark → Left st Remarks after r → Takes st block at r
-    takes-remark e = let l = leads-remark e in takes-none (l .calls) (sym (l .says st))
+    pub takes-remark : f ≡ Remark → Left st Remarks after r → Takes st card block at r
+    takes-remark e = let l = leads-remark e in takes-none (l .calls) (sym (l .says st card))
 
-    pub takes-refused : (why : Why) (place : ℕ) → f ≡ Refused why place → Left st (Refuses why place) after r → Takes st block at r
-    takes-refused why place e = takes-none (none-refused why place e) (sym (says-refused why place e st))
+    pub takes-refused : (why : Why) (place : ℕ) → f ≡ Refused why place → Left st (Refuses why place) after r → Takes st card block at r
+    takes-refused why place e = takes-none (none-refused why place e) (sym (says-refused why place e st card))

@@ -18,36 +18,36 @@ use Rattle.blocks.specs.Histories.{Event, RunsBy, none, offers, resets, 
 use Rattle.blocks.proofs.Along.{as-calls as along-is}
 
 -- ---- a call of a block is a call
-one-more : (from : Station) (before : List Said) (st : Station) (call : Call) → RunsFrom from before st
-    → RunsFrom from (said (made call) (answerIn st call) ∷ before) (afterCall st call)
+one-more : (from : Station) (before : List Said) (st : Station) (card : ℕ) (call : Call) → RunsFrom from before st
+    → RunsFrom from (said (made card call) (answerIn st card call) ∷ before) (afterCall st card call)
 unfolding answerIn afterCall
-one-more from before st (Offer c epoch s) run =
-    let r : Stepped = record { station = stationAfter st c epoch s; answer = some-answer st c epoch s .answer } in
-    subst (λ (a : List ℕ). RunsFrom from (said (MadeOffer c epoch s) a ∷ before) (stationAfter st c epoch s)) (some-answer st c epoch s .is)
-    (Offers c epoch s before st r run (offer-answers st c epoch s))
-one-more from before st (Reset c) run =
-    let r : Emptied = record { station = stationReset st c; answer = reset-answer c } in
-    subst (λ (a : List ℕ). RunsFrom from (said (MadeReset c) a ∷ before) (stationReset st c)) (reset-answers st c .answer)
-    (Resets c before st r run (reset-answers st c))
+one-more from before st card (Offer c epoch s) run =
+    let r : Stepped = record { station = stationAfter st card c epoch s; answer = some-answer st card c epoch s .answer } in
+    subst (λ (a : List ℕ). RunsFrom from (said (MadeOffer card c epoch s) a ∷ before) (stationAfter st card c epoch s)) (some-answer st card c epoch s .is)
+    (Offers card c epoch s before st r run (offer-answers st card c epoch s))
+one-more from before st card (Reset c) run =
+    let r : Emptied = record { station = stationReset st card c; answer = reset-answer card c } in
+    subst (λ (a : List ℕ). RunsFrom from (said (MadeReset card c) a ∷ before) (stationReset st card c)) (reset-answers st card c .answer)
+    (Resets card c before st r run (reset-answers st card c))
 
 -- so the calls of a block, the first made first, are calls one after the other
-all-more : (from : Station) (calls : List Call) (before : List Said) (st : Station) → RunsFrom from before st
-    → RunsFrom from (saidThen before calls (answersTo st calls)) (afterCalls st calls)
+all-more : (from : Station) (card : ℕ) (calls : List Call) (before : List Said) (st : Station) → RunsFrom from before st
+    → RunsFrom from (saidThen before card calls (answersTo st card calls)) (afterCalls st card calls)
 unfolding saidThen answersTo afterCalls
-all-more from [] before st run = run
-all-more from (call ∷ calls) before st run = all-more from calls _ (afterCall st call) (one-more from before st call run)
+all-more from card [] before st run = run
+all-more from card (call ∷ calls) before st run = all-more from card calls _ (afterCall st card call) (one-more from before st card call run)
 
 -- ---- CALLS AND BLOCKS ARE THEIR CALLS, from any station
 pub as-calls : (from : Station) (h : List Event) (st : Station) → RunsBy from h st → RunsFrom from (saidIn h) st
 unfolding saidIn
 as-calls from h st none = None
-as-calls from h st (offers c epoch s before old r run o) = Offers c epoch s (saidIn before) old r (as-calls from before old run) o
-as-calls from h st (resets c before old r run o) = Resets c (saidIn before) old r (as-calls from before old run) o
-as-calls from h st (hands block answers before old r last ended run o along) =
-    let a = along-is old block answers last ended along .same-answers in
-    subst (λ (x : Station). RunsFrom from (saidThen (saidIn before) (callsIn block) answers) x) (sym (o .station))
-    (subst (λ (l : List (List ℕ)). RunsFrom from (saidThen (saidIn before) (callsIn block) l) (afterCalls old (callsIn block))) (sym a)
-    (all-more from (callsIn block) (saidIn before) old (as-calls from before old run)))
+as-calls from h st (offers card c epoch s before old r run o) = Offers card c epoch s (saidIn before) old r (as-calls from before old run) o
+as-calls from h st (resets card c before old r run o) = Resets card c (saidIn before) old r (as-calls from before old run) o
+as-calls from h st (hands card block answers before old r last ended run o along) =
+    let a = along-is old card block answers last ended along .same-answers in
+    subst (λ (x : Station). RunsFrom from (saidThen (saidIn before) card (callsIn block) answers) x) (sym (o .station))
+    (subst (λ (l : List (List ℕ)). RunsFrom from (saidThen (saidIn before) card (callsIn block) l) (afterCalls old card (callsIn block))) (sym a)
+    (all-more from card (callsIn block) (saidIn before) old (as-calls from before old run)))
 
 -- ---- DEMAND 3 READS A BLOCK AS ITS CALLS
 module _ {h : List Event} {st : Station} (run : RunsBy freshStation h st) where
@@ -76,4 +76,6 @@ blocks-as-calls =
       book = λ h st run. demands .book (callsBy h) st (its-calls run);
       summary = λ h st run. demands .summary (callsBy h) st (its-calls run);
       health = λ h st run. demands .health (callsBy h) st (its-calls run);
+      isolated = λ card from from′ g h st st′ w w′ agree run run′ same.
+          demands .isolated card from from′ (saidIn g) (saidIn h) st st′ w w′ agree (as-calls from g st run) (as-calls from′ h st′ run′) same;
     }

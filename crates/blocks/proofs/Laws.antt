@@ -69,7 +69,7 @@ not-refused w j l e = absurd (no-number w (sym (ap first e)))
 other-tag : {A : Type 0} (m n : ℕ) (k l : List ℕ) → (m ≡ n → ⊥) → 0 ∷ m ∷ k ≡ 0 ∷ n ∷ l → A
 other-tag m n k l d e = absurd (d (ap second e))
 
-told-same : (t u : Told) → toldPaper t ≡ toldPaper u → t ≡ u
+pub told-same : (t u : Told) → toldPaper t ≡ toldPaper u → t ≡ u
 told-same End End e = refl
 told-same End (Offered a) e = other-tag 0 1 _ _ (λ p. omega arith) e
 told-same End (Emptied a) e = other-tag 0 2 _ _ (λ p. omega arith) e
@@ -96,55 +96,60 @@ told-same (Refused v i) (Emptied b) e = not-refused v i _ (sym e)
 told-same (Refused v i) Remark e = not-refused v i _ (sym e)
 told-same (Refused v i) (Refused w j) e = refused-same v w i j e
 
-ended-same : (t u : Ended) → endedPaper t ≡ endedPaper u → t ≡ u
+pub ended-same : (t u : Ended) → endedPaper t ≡ endedPaper u → t ≡ u
 ended-same Whole Whole e = refl
 ended-same Whole (Stopped w j) e = not-refused w j _ e
 ended-same (Stopped v i) Whole e = not-refused v i _ (sym e)
 ended-same (Stopped v i) (Stopped w j) e = ap₂ Stopped (why-same v w (ap first e)) (ap second e)
 
 -- ---- NO SECOND ANSWER FITS, and every call answers
-takes-once : (st : Station) (block : List ℕ) (at : ℕ) (r q : Taken) → Takes st block at r → Takes st block at q → r ≡ q
-takes-once st block at r q a b =
+takes-once : (st : Station) (card : ℕ) (block : List ℕ) (at : ℕ) (r q : Taken) → Takes st card block at r → Takes st card block at q → r ≡ q
+takes-once st card block at r q a b =
     ap₂ (λ (x : Station × Told) (k : ℕ). record { station = x .0; told = x .1; after = k })
     (ap₂ (λ (x : Station) (y : Told). (x, y)) (a .station ∙ sym (b .station)) (told-same (r .told) (q .told) (a .answer ∙ sym (b .answer))))
     (a .next ∙ sym (b .next))
 
-hands-once : (st : Station) (block : List ℕ) (r q : Handed) → HandsOver st block r → HandsOver st block q → r ≡ q
-hands-once st block r q a b =
+hands-once : (st : Station) (card : ℕ) (block : List ℕ) (r q : Handed) → HandsOver st card block r → HandsOver st card block q → r ≡ q
+hands-once st card block r q a b =
     ap₂ (λ (x : Station) (y : Ended). record { station = x; ended = y }) (a .station ∙ sym (b .station))
     (ended-same (r .ended) (q .ended) (a .end ∙ sym (b .end)))
 
-field-answers : (st : Station) (block : List ℕ) (at : ℕ) → OneAnswer Taken (Takes st block at)
-field-answers st block at =
-    record { answer = taken st block at; fits = takes st block at; only = λ r a. takes-once st block at r (taken st block at) a (takes st block at) }
+field-answers : (st : Station) (card : ℕ) (block : List ℕ) (at : ℕ) → OneAnswer Taken (Takes st card block at)
+field-answers st card block at =
+    record {
+      answer = taken st card block at;
+      fits = takes st card block at;
+      only = λ r a. takes-once st card block at r (taken st card block at) a (takes st card block at);
+    }
 
-block-answers : (st : Station) (block : List ℕ) → OneAnswer Handed (HandsOver st block)
-block-answers st block =
-    let w = passes st block in
-    let a = as-calls st block (w .answers) (w .last) (w .ended) (w .along) in
-    let f : HandsOver st block (record { station = w .last; ended = w .ended }) = record { station = a .same-station; end = a .end } in
-    record { answer = record { station = w .last; ended = w .ended }; fits = f; only = λ r o. hands-once st block r _ o f }
+block-answers : (st : Station) (card : ℕ) (block : List ℕ) → OneAnswer Handed (HandsOver st card block)
+block-answers st card block =
+    let w = passes st card block in
+    let a = as-calls st card block (w .answers) (w .last) (w .ended) (w .along) in
+    let f : HandsOver st card block (record { station = w .last; ended = w .ended }) = record { station = a .same-station; end = a .end } in
+    record { answer = record { station = w .last; ended = w .ended }; fits = f; only = λ r o. hands-once st card block r _ o f }
 
 -- ---- the numbers
-says-before : (st : Station) (block : List ℕ) (at : ℕ) → at < length block
-    → fieldSays st block at ≡ answerOf (testsIn at (drop at block)) (tagIn (drop at block) ∷ answerAmong st (callIn (drop at block)))
+says-before : (st : Station) (card : ℕ) (block : List ℕ) (at : ℕ) → at < length block
+    → fieldSays st card block at ≡ answerOf (testsIn at (drop at block)) (tagIn (drop at block) ∷ answerAmong st card (callIn (drop at block)))
 unfolding fieldSays
-says-before st block at h = rw (lt-leb (length block) at h)
+says-before st card block at h = rw (lt-leb (length block) at h)
 
-exactly : (st : Station) (block : List ℕ) (at : ℕ) (r : Taken) → Takes st block at r → at < length block
+exactly : (st : Station) (card : ℕ) (block : List ℕ) (at : ℕ) (r : Taken) → Takes st card block at r → at < length block
     → Exactly (testsIn at (drop at block)) (toldPaper (r .told))
-exactly st block at r t h =
-    by-tests tt (record { answer = t .answer ∙ says-before st block at h; output = refl {a = leftBy (firstOf (testsIn at (drop at block))) [] []} })
+exactly st card block at r t h =
+    by-tests tt (record { answer = t .answer ∙ says-before st card block at h; output = refl {a = leftBy (firstOf (testsIn at (drop at block))) [] []} })
 
-refused : (st : Station) (block : List ℕ) (at : ℕ) (r : Taken) → Takes st block at r → isGood (drop at block) ≡ false → (r .station ≡ st) × (r .after ≡ at)
+refused : (st : Station) (card : ℕ) (block : List ℕ) (at : ℕ) (r : Taken) → Takes st card block at r → isGood (drop at block) ≡ false
+    → (r .station ≡ st) × (r .after ≡ at)
 unfolding afterCalls
-refused st block at r t e = (
-  t .station ∙ ap (afterCalls st) (none-where block at e),
+refused st card block at r t e = (
+  t .station ∙ ap (afterCalls st card) (none-where block at e),
   t .next ∙ ap (λ (k : ℕ). at + k) (size-none (drop at block) e) ∙ omega arith,
 )
 
 -- the end is told at the end
-module _ (st : Station) (block : List ℕ) (at : ℕ) (r : Taken) (t : Takes st block at r) where
+module _ (st : Station) (card : ℕ) (block : List ℕ) (at : ℕ) (r : Taken) (t : Takes st card block at r) where
   abbrev rest : List ℕ
   rest = drop at block
 
@@ -152,9 +157,10 @@ module _ (st : Station) (block : List ℕ) (at : ℕ) (r : Taken) (t : Takes st 
   not-before e h = by (isGood rest) refl
     where
       by : (b : Bool) → isGood rest ≡ b → ⊥
-      by true g = never-0 rest g (sym (ap second (ap toldPaper (sym e) ∙ t .answer ∙ says-call st block at g)))
+      by true g = never-0 rest g (sym (ap second (ap toldPaper (sym e) ∙ t .answer ∙ says-call st card block at g)))
       by false g =
-          refused-never at rest (tagIn rest ∷ answerAmong st (callIn rest)) (0 ∷ []) g (sym (says-before st block at h) ∙ sym (t .answer) ∙ ap toldPaper e)
+          refused-never at rest (tagIn rest ∷ answerAmong st card (callIn rest)) (0 ∷ []) g
+          (sym (says-before st card block at h) ∙ sym (t .answer) ∙ ap toldPaper e)
 
   past-end : length block ≤ at → r .told ≡ End
   unfolding fieldSays
@@ -168,36 +174,37 @@ module _ (st : Station) (block : List ℕ) (at : ℕ) (r : Taken) (t : Takes st 
       by false p e = absurd (not-before e (leb-false (length block) at p))
 
 -- ---- field by field as the whole block
-same-station : (st : Station) (block : List ℕ) (answers : List (List ℕ)) (last : Station) (ended : Ended) (r : Handed)
-    → Along block st 0 answers last ended → HandsOver st block r → (last ≡ r .station) × (ended ≡ r .ended)
-same-station st block answers last ended r along o =
-    let a = as-calls st block answers last ended along in
+same-station : (st : Station) (card : ℕ) (block : List ℕ) (answers : List (List ℕ)) (last : Station) (ended : Ended) (r : Handed)
+    → Along card block st 0 answers last ended → HandsOver st card block r → (last ≡ r .station) × (ended ≡ r .ended)
+same-station st card block answers last ended r along o =
+    let a = as-calls st card block answers last ended along in
     (a .same-station ∙ sym (o .station), ended-same ended (r .ended) (a .end ∙ sym (o .end)))
 
 -- ---- blocks that are written, and blocks end to end
-written : (st : Station) (items : List Item) → AllFit items → (r : Handed) → HandsOver st (blockOf items) r
-    → (r .station ≡ afterCalls st (callsAmong items)) × (r .ended ≡ Whole)
-written st items fit r o =
+written : (st : Station) (card : ℕ) (items : List Item) → AllFit items → (r : Handed) → HandsOver st card (blockOf items) r
+    → (r .station ≡ afterCalls st card (callsAmong items)) × (r .ended ≡ Whole)
+written st card items fit r o =
     let w = fields-laws .reads items fit in
-    (o .station ∙ ap (afterCalls st) (w .calls), ended-same (r .ended) Whole (o .end ∙ w .whole))
+    (o .station ∙ ap (afterCalls st card) (w .calls), ended-same (r .ended) Whole (o .end ∙ w .whole))
 
-follow : (st : Station) (a b : List ℕ) (r q s : Handed) → HandsOver st a r → r .ended ≡ Whole → HandsOver (r .station) b q → HandsOver st (a ++ b) s
+follow : (st : Station) (card : ℕ) (a b : List ℕ) (r q s : Handed) → HandsOver st card a r → r .ended ≡ Whole → HandsOver (r .station) card b q
+    → HandsOver st card (a ++ b) s
     → s .station ≡ q .station
-follow st a b r q s o e p w =
+follow st card a b r q s o e p w =
     let f = fields-laws .follow a b (sym (o .end) ∙ ap endedPaper e) in
-    w .station ∙ ap (afterCalls st) (f .calls) ∙ after-append st (callsIn a) (callsIn b)
-    ∙ ap (λ (x : Station). afterCalls x (callsIn b)) (sym (o .station)) ∙ sym (p .station)
+    w .station ∙ ap (afterCalls st card) (f .calls) ∙ after-append st card (callsIn a) (callsIn b)
+    ∙ ap (λ (x : Station). afterCalls x card (callsIn b)) (sym (o .station)) ∙ sym (p .station)
 
 -- ---- what is refused
 none-in : (rest : List ℕ) → isGood rest ≡ false → callsIn rest ≡ []
 unfolding callsOf
 none-in rest e = ap callsOf (fields-none rest e)
 
-kept : (st : Station) (before rest : List ℕ) (r : Handed) → endIn before ≡ 0 ∷ [] → isGood rest ≡ false → HandsOver st (before ++ rest) r
-    → r .station ≡ afterCalls st (callsIn before)
-kept st before rest r w e o =
+kept : (st : Station) (card : ℕ) (before rest : List ℕ) (r : Handed) → endIn before ≡ 0 ∷ [] → isGood rest ≡ false → HandsOver st card (before ++ rest) r
+    → r .station ≡ afterCalls st card (callsIn before)
+kept st card before rest r w e o =
     let l = fields-laws .follow before rest w .calls ∙ ap (λ (l : List Call). callsIn before ++ l) (none-in rest e) ∙ append-nil (callsIn before) in
-    o .station ∙ ap (afterCalls st) l
+    o .station ∙ ap (afterCalls st card) l
 
 -- a field that is refused though it is whole, with any bytes after it
 module _ (field : List ℕ) (e : isGood field ≡ false) (h : 3 + lengthIn field ≤ length field) where
@@ -224,11 +231,12 @@ module _ (field : List ℕ) (e : isGood field ≡ false) (h : 3 + lengthIn field
         end-none (field ++ x) 0 refused-then
         ∙ rw (lt-leb (length (field ++ x)) 0 (omega (arith, length-append field x)), whole-then, tag-then, length-then)
 
-no-effect : (st : Station) (before field x y : List ℕ) (r q : Handed) → endIn before ≡ 0 ∷ [] → isGood field ≡ false → 3 + lengthIn field ≤ length field
-    → HandsOver st (before ++ (field ++ x)) r → HandsOver st (before ++ (field ++ y)) q → r ≡ q
-no-effect st before field x y r q w e h o p =
-    let a = kept st before (field ++ x) r w (refused-then field e h x) o in
-    let b = kept st before (field ++ y) q w (refused-then field e h y) p in
+no-effect : (st : Station) (card : ℕ) (before field x y : List ℕ) (r q : Handed) → endIn before ≡ 0 ∷ [] → isGood field ≡ false
+    → 3 + lengthIn field ≤ length field
+    → HandsOver st card (before ++ (field ++ x)) r → HandsOver st card (before ++ (field ++ y)) q → r ≡ q
+no-effect st card before field x y r q w e h o p =
+    let a = kept st card before (field ++ x) r w (refused-then field e h x) o in
+    let b = kept st card before (field ++ y) q w (refused-then field e h y) p in
     let c = o .end ∙ fields-laws .follow before (field ++ x) w .end ∙ ap (onward (length before)) (end-then field e h x) in
     let d = p .end ∙ fields-laws .follow before (field ++ y) w .end ∙ ap (onward (length before)) (end-then field e h y) in
     ap₂ (λ (x : Station) (y : Ended). record { station = x; ended = y }) (a ∙ sym b) (ended-same (r .ended) (q .ended) (c ∙ sym d))
@@ -246,6 +254,6 @@ laws =
       same-station = same-station;
       written = written;
       follow = follow;
-      keeps = λ st before rest r q w e o p. kept st before rest r w e o ∙ sym (p .station);
+      keeps = λ st card before rest r q w e o p. kept st card before rest r w e o ∙ sym (p .station);
       no-effect = no-effect;
     }

@@ -3,3 +3,4 @@ pub mod Steps
 pub mod Along
 pub mod Histories
 pub mod Laws
+pub mod Isolation

@@ -28,15 +28,16 @@ use Rattle.blocks.specs.Handing.{endedPaper, HandsOver, isLast, endedBy}
 use Rattle.blocks.proofs.Found.{no-number, calls-where, none-where}
 
 -- ---- calls one after the other
-pub after-append : (st : Station) (cs ds : List Call) → afterCalls st (cs ++ ds) ≡ afterCalls (afterCalls st cs) ds
+pub after-append : (st : Station) (card : ℕ) (cs ds : List Call) → afterCalls st card (cs ++ ds) ≡ afterCalls (afterCalls st card cs) card ds
 unfolding afterCalls
-after-append st [] ds = refl
-after-append st (call ∷ cs) ds = after-append (afterCall st call) cs ds
+after-append st card [] ds = refl
+after-append st card (call ∷ cs) ds = after-append (afterCall st card call) card cs ds
 
-pub answers-append : (st : Station) (cs ds : List Call) → answersTo st (cs ++ ds) ≡ answersTo st cs ++ answersTo (afterCalls st cs) ds
+pub answers-append : (st : Station) (card : ℕ) (cs ds : List Call)
+    → answersTo st card (cs ++ ds) ≡ answersTo st card cs ++ answersTo (afterCalls st card cs) card ds
 unfolding afterCalls answersTo
-answers-append st [] ds = refl
-answers-append st (call ∷ cs) ds = ap (λ (l : List (List ℕ)). answerIn st call ∷ l) (answers-append (afterCall st call) cs ds)
+answers-append st card [] ds = refl
+answers-append st card (call ∷ cs) ds = ap (λ (l : List (List ℕ)). answerIn st card call ∷ l) (answers-append (afterCall st card call) card cs ds)
 
 -- ---- from a place on
 abbrev pub from : List ℕ → ℕ → List Call
@@ -100,12 +101,12 @@ module _ (block : List ℕ) (at : ℕ) (e : isGood (drop at block) ≡ false) wh
   stopped Remark l p = absurd (refused-never at (drop at block) l _ e (sym p))
   stopped (Refused why place) l p = p ∙ refused-tells at (drop at block) l e
 
-  ended : (st : Station) (told : Told) → toldPaper told ≡ fieldSays st block at → endedPaper (endedBy told) ≡ endAt block at
+  ended : (st : Station) (card : ℕ) (told : Told) → toldPaper told ≡ fieldSays st card block at → endedPaper (endedBy told) ≡ endAt block at
   unfolding fieldSays
-  ended st told p = by (leb (length block) at) p
+  ended st card told p = by (leb (length block) at) p
     where
       by : (b : Bool)
-          → toldPaper told ≡ pick b (0 ∷ 0 ∷ []) (answerOf (testsIn at (drop at block)) (tagIn (drop at block) ∷ answerAmong st (callIn (drop at block))))
+          → toldPaper told ≡ pick b (0 ∷ 0 ∷ []) (answerOf (testsIn at (drop at block)) (tagIn (drop at block) ∷ answerAmong st card (callIn (drop at block))))
           → endedPaper (endedBy told) ≡ pick b (0 ∷ []) (answerOf (testsIn at (drop at block)) [])
       by true q = whole told q
       by false q = stopped told _ q
@@ -125,7 +126,7 @@ pub record Stops (block : List ℕ) (at : ℕ) (told : Told) : Type 0 where
   pub none : callsAt block at ≡ []
   pub end : endedPaper (endedBy told) ≡ endFrom block at
 
-module _ {st : Station} {block : List ℕ} {at : ℕ} {r : Taken} (t : Takes st block at r) where
+module _ {st : Station} {card : ℕ} {block : List ℕ} {at : ℕ} {r : Taken} (t : Takes st card block at r) where
   pub moves : (r .after ≡ at → ⊥) → Moves block at (r .after)
   moves n = by (isGood (drop at block)) refl
     where
@@ -151,7 +152,7 @@ module _ {st : Station} {block : List ℕ} {at : ℕ} {r : Taken} (t : Takes st 
             refused = e;
             calls = from-none block at e;
             none = none-where block at e;
-            end = ended block at e st (r .told) (t .answer) ∙ sym (end-none block at e);
+            end = ended block at e st card (r .told) (t .answer) ∙ sym (end-none block at e);
           }
 
 -- ---- what is told says whether it moves on
@@ -159,19 +160,19 @@ pub never-0 : (rest : List ℕ) → isGood rest ≡ true → tagIn rest ≡ 0 �
 never-0 rest e z = true≢false (ap isUnknown (sym z) ∙ good-parts rest e .known)
 
 -- a good field before the end tells its tag and its answer
-pub says-call : (st : Station) (block : List ℕ) (at : ℕ) → isGood (drop at block) ≡ true
-    → fieldSays st block at ≡ 0 ∷ tagIn (drop at block) ∷ answerAmong st (callIn (drop at block))
+pub says-call : (st : Station) (card : ℕ) (block : List ℕ) (at : ℕ) → isGood (drop at block) ≡ true
+    → fieldSays st card block at ≡ 0 ∷ tagIn (drop at block) ∷ answerAmong st card (callIn (drop at block))
 unfolding fieldSays
-says-call st block at e =
+says-call st card block at e =
     let f = falls block at e in
     rw (lt-leb (length block) at (omega (arith, f .0, f .1))) (good-tells at (drop at block) _ e)
 
-module _ {st : Station} {block : List ℕ} {at : ℕ} {r : Taken} (t : Takes st block at r) where
+module _ {st : Station} {card : ℕ} {block : List ℕ} {at : ℕ} {r : Taken} (t : Takes st card block at r) where
   -- a good field is not the last
   good-goes : isGood (drop at block) ≡ true → isLast (r .told) ≡ false
-  good-goes e = by (r .told) (t .answer ∙ says-call st block at e)
+  good-goes e = by (r .told) (t .answer ∙ says-call st card block at e)
     where
-      by : (told : Told) → toldPaper told ≡ 0 ∷ tagIn (drop at block) ∷ answerAmong st (callIn (drop at block)) → isLast told ≡ false
+      by : (told : Told) → toldPaper told ≡ 0 ∷ tagIn (drop at block) ∷ answerAmong st card (callIn (drop at block)) → isLast told ≡ false
       by End p = absurd (never-0 (drop at block) e (sym (ap (λ (l : List ℕ). getD l 1 0) p)))
       by (Offered answer) p = refl
       by (Emptied answer) p = refl
@@ -184,7 +185,7 @@ module _ {st : Station} {block : List ℕ} {at : ℕ} {r : Taken} (t : Takes st 
   none-stops e = by (leb (length block) at) (r .told) (t .answer)
     where
       by : (b : Bool) (told : Told)
-          → toldPaper told ≡ pick b (0 ∷ 0 ∷ []) (answerOf (testsIn at (drop at block)) (tagIn (drop at block) ∷ answerAmong st (callIn (drop at block))))
+          → toldPaper told ≡ pick b (0 ∷ 0 ∷ []) (answerOf (testsIn at (drop at block)) (tagIn (drop at block) ∷ answerAmong st card (callIn (drop at block))))
           → isLast told ≡ true
       by b End p = refl
       by b (Refused why place) p = refl
@@ -210,28 +211,29 @@ module _ {st : Station} {block : List ℕ} {at : ℕ} {r : Taken} (t : Takes st 
       by false e = true≢false (sym (none-stops e) ∙ l)
 
 -- ---- what was handed over up to a place, and what is left
-pub record So-far (st : Station) (block : List ℕ) (next : Station) (at : ℕ) : Type 0 where
-  pub station : afterCalls next (from block at) ≡ afterCalls st (callsIn block)
+pub record So-far (st : Station) (card : ℕ) (block : List ℕ) (next : Station) (at : ℕ) : Type 0 where
+  pub station : afterCalls next card (from block at) ≡ afterCalls st card (callsIn block)
   pub end : endFrom block at ≡ endIn block
 
-pub so-far-none : (st : Station) (block : List ℕ) → So-far st block st 0
-so-far-none st block = record { station = refl; end = refl }
+pub so-far-none : (st : Station) (card : ℕ) (block : List ℕ) → So-far st card block st 0
+so-far-none st card block = record { station = refl; end = refl }
 
-module _ {st next : Station} {block : List ℕ} {at : ℕ} {r : Taken} (s : So-far st block next at) (t : Takes next block at r) where
-  pub so-far-more : (r .after ≡ at → ⊥) → So-far st block (r .station) (r .after)
+module _ {st next : Station} {card : ℕ} {block : List ℕ} {at : ℕ} {r : Taken} (s : So-far st card block next at) (t : Takes next card block at r) where
+  pub so-far-more : (r .after ≡ at → ⊥) → So-far st card block (r .station) (r .after)
   so-far-more n =
       let m = moves t n in
       record {
-        station = ap (λ (x : Station). afterCalls x (from block (r .after))) (t .station) ∙ sym (after-append next (callsAt block at) (from block (r .after)))
-            ∙ ap (afterCalls next) (sym (m .calls)) ∙ s .station;
+        station = ap (λ (x : Station). afterCalls x card (from block (r .after))) (t .station)
+            ∙ sym (after-append next card (callsAt block at) (from block (r .after)))
+            ∙ ap (afterCalls next card) (sym (m .calls)) ∙ s .station;
         end = sym (m .end) ∙ s .end;
       }
 
-  pub so-far-all : r .after ≡ at → {ended : Ended} → ended ≡ endedBy (r .told) → HandsOver st block (record { station = r .station; ended = ended })
+  pub so-far-all : r .after ≡ at → {ended : Ended} → ended ≡ endedBy (r .told) → HandsOver st card block (record { station = r .station; ended = ended })
   unfolding afterCalls
   so-far-all h {ended} e =
       let m = stops t h in
       record {
-        station = t .station ∙ ap (afterCalls next) (m .none ∙ sym (m .calls)) ∙ s .station;
+        station = t .station ∙ ap (afterCalls next card) (m .none ∙ sym (m .calls)) ∙ s .station;
         end = ap endedPaper e ∙ m .end ∙ s .end;
       }

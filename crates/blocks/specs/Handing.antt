@@ -1,5 +1,5 @@
 -- A whole block handed to a station: "Handing a block to any station gives the same station and answers as its calls one by one, in the order written".
--- For any station and any bytes.
+-- For any station, any card and any bytes.
 -- Assumes nothing.
 use Prim.Native.Nat.{ℕ}
 use mathlib.Core.Bool.{Bool, true, false}
@@ -21,8 +21,8 @@ endedPaper Whole = 0 ∷ []
 endedPaper (Stopped why at) = whyNumber why ∷ at ∷ []
 
 -- "the work stops there, keeps what went before and tells the byte place of the field"
-pub record HandsOver (st : Station) (block : List ℕ) (r : Handed) : Type 0 where
-  pub station : r .station ≡ afterCalls st (callsIn block)
+pub record HandsOver (st : Station) (card : ℕ) (block : List ℕ) (r : Handed) : Type 0 where
+  pub station : r .station ≡ afterCalls st card (callsIn block)
   pub end : endedPaper (r .ended) ≡ endIn block
 
 -- the work stops at the end of the block and at a field that is refused, and nowhere else

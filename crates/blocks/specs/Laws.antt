@@ -1,4 +1,4 @@
--- What holds of every block that is handed to a station, whatever the station and whatever the bytes. Proved as `laws` in `proofs/Laws.antt`.
+-- What holds of every block that is handed to a station, whatever the station, the card and the bytes. Proved as `laws` in `proofs/Laws.antt`.
 -- Assumes nothing.
 use Prim.Native.Nat.{ℕ, _+_, _≤_, _<_}
 use mathlib.Core.Bool.{false}
@@ -23,30 +23,33 @@ use Rattle.blocks.specs.Along.{Along, Passed, AsCalls}
 
 pub record Laws : Type 0 where
   -- every call answers, of any station and any bytes, and no second answer fits
-  pub field-answers : (st : Station) (block : List ℕ) (at : ℕ) → OneAnswer Taken (Takes st block at)
-  pub block-answers : (st : Station) (block : List ℕ) → OneAnswer Handed (HandsOver st block)
+  pub field-answers : (st : Station) (card : ℕ) (block : List ℕ) (at : ℕ) → OneAnswer Taken (Takes st card block at)
+  pub block-answers : (st : Station) (card : ℕ) (block : List ℕ) → OneAnswer Handed (HandsOver st card block)
   -- the end is told exactly at the end and past it; and before it each number exactly where its test is the first to fit
-  pub ends : (st : Station) (block : List ℕ) (at : ℕ) (r : Taken) → Takes st block at r → (r .told ≡ End) ↔ (length block ≤ at)
-  pub exactly : (st : Station) (block : List ℕ) (at : ℕ) (r : Taken) → Takes st block at r → at < length block
+  pub ends : (st : Station) (card : ℕ) (block : List ℕ) (at : ℕ) (r : Taken) → Takes st card block at r → (r .told ≡ End) ↔ (length block ≤ at)
+  pub exactly : (st : Station) (card : ℕ) (block : List ℕ) (at : ℕ) (r : Taken) → Takes st card block at r → at < length block
       → Exactly (testsIn at (drop at block)) (toldPaper (r .told))
   -- a field that is refused changes nothing, and the reading stays there
-  pub refused : (st : Station) (block : List ℕ) (at : ℕ) (r : Taken) → Takes st block at r → isGood (drop at block) ≡ false
+  pub refused : (st : Station) (card : ℕ) (block : List ℕ) (at : ℕ) (r : Taken) → Takes st card block at r → isGood (drop at block) ≡ false
       → (r .station ≡ st) × (r .after ≡ at)
   -- the fields of a block one by one have the answers of its calls one by one, and lead to the station and to the end that the whole block is handed over to
-  pub passes : (st : Station) (block : List ℕ) → Passed st block 0
-  pub as-calls : (st : Station) (block : List ℕ) (answers : List (List ℕ)) (last : Station) (ended : Ended) → Along block st 0 answers last ended
-      → AsCalls st block answers last ended
-  pub same-station : (st : Station) (block : List ℕ) (answers : List (List ℕ)) (last : Station) (ended : Ended) (r : Handed)
-      → Along block st 0 answers last ended → HandsOver st block r → (last ≡ r .station) × (ended ≡ r .ended)
+  pub passes : (st : Station) (card : ℕ) (block : List ℕ) → Passed st card block 0
+  pub as-calls : (st : Station) (card : ℕ) (block : List ℕ) (answers : List (List ℕ)) (last : Station) (ended : Ended)
+      → Along card block st 0 answers last ended
+      → AsCalls st card block answers last ended
+  pub same-station : (st : Station) (card : ℕ) (block : List ℕ) (answers : List (List ℕ)) (last : Station) (ended : Ended) (r : Handed)
+      → Along card block st 0 answers last ended → HandsOver st card block r → (last ≡ r .station) × (ended ≡ r .ended)
   -- a block that is written from calls and remarks does exactly these calls, and ends whole
-  pub written : (st : Station) (items : List Item) → AllFit items → (r : Handed) → HandsOver st (blockOf items) r
-      → (r .station ≡ afterCalls st (callsAmong items)) × (r .ended ≡ Whole)
+  pub written : (st : Station) (card : ℕ) (items : List Item) → AllFit items → (r : Handed) → HandsOver st card (blockOf items) r
+      → (r .station ≡ afterCalls st card (callsAmong items)) × (r .ended ≡ Whole)
   -- two blocks end to end are the one and then the other, where the first ends whole
-  pub follow : (st : Station) (a b : List ℕ) (r q s : Handed) → HandsOver st a r → r .ended ≡ Whole → HandsOver (r .station) b q → HandsOver st (a ++ b) s
+  pub follow : (st : Station) (card : ℕ) (a b : List ℕ) (r q s : Handed) → HandsOver st card a r → r .ended ≡ Whole → HandsOver (r .station) card b q
+      → HandsOver st card (a ++ b) s
       → s .station ≡ q .station
   -- "the work stops there, keeps what went before": of what is refused nothing is done,
-  pub keeps : (st : Station) (before rest : List ℕ) (r q : Handed) → endIn before ≡ 0 ∷ [] → isGood rest ≡ false
-      → HandsOver st (before ++ rest) r → HandsOver st before q → r .station ≡ q .station
+  pub keeps : (st : Station) (card : ℕ) (before rest : List ℕ) (r q : Handed) → endIn before ≡ 0 ∷ [] → isGood rest ≡ false
+      → HandsOver st card (before ++ rest) r → HandsOver st card before q → r .station ≡ q .station
   -- and what stands after it has no effect, whatever it is
-  pub no-effect : (st : Station) (before field x y : List ℕ) (r q : Handed) → endIn before ≡ 0 ∷ [] → isGood field ≡ false → 3 + lengthIn field ≤ length field
-      → HandsOver st (before ++ (field ++ x)) r → HandsOver st (before ++ (field ++ y)) q → r ≡ q
+  pub no-effect : (st : Station) (card : ℕ) (before field x y : List ℕ) (r q : Handed) → endIn before ≡ 0 ∷ [] → isGood field ≡ false
+      → 3 + lengthIn field ≤ length field
+      → HandsOver st card (before ++ (field ++ x)) r → HandsOver st card (before ++ (field ++ y)) q → r ≡ q

@@ -1,4 +1,5 @@
--- One field of a block, done on a station (the request "One transfer a second"). For any station, any bytes and any place.
+-- One field of a block, done on a station (the request "One transfer a second"), by the card that hands the block over: "Every offer, reset, query and block
+-- names the asking card". For any station, any card, any bytes and any place.
 -- Assumes nothing.
 use Prim.Native.Nat.{ℕ, _+_}
 use mathlib.Core.List.{List, [], _∷_}
@@ -17,24 +18,24 @@ use Rattle.blocks.specs.declared.Told.{Told}
 use Rattle.blocks.specs.declared.Told.the-variants.{End, Offered, Emptied, Remark, Refused}
 use Rattle.blocks.specs.declared.Taken.{Taken}
 
--- ---- a call that a block asks for, made on a station: its own answer in the paper's numbers, refusals included, and the station after it
-unfoldable pub answerIn : Station → Call → List ℕ
-answerIn st (Offer c epoch s) = answerOf (stationTests st c epoch s) (toldIn st c epoch s)
-answerIn st (Reset c) = shutSays c
+-- ---- a call that a block asks for, made on a station by a card: its own answer in the paper's numbers, refusals included, and the station after it
+unfoldable pub answerIn : Station → ℕ → Call → List ℕ
+answerIn st card (Offer c epoch s) = answerOf (stationTests st card c epoch s) (toldIn st c epoch s)
+answerIn st card (Reset c) = shutSays card c
 
-unfoldable pub afterCall : Station → Call → Station
-afterCall st (Offer c epoch s) = stationAfter st c epoch s
-afterCall st (Reset c) = stationReset st c
+unfoldable pub afterCall : Station → ℕ → Call → Station
+afterCall st card (Offer c epoch s) = stationAfter st card c epoch s
+afterCall st card (Reset c) = stationReset st card c
 
 -- "its calls one by one, in the order written": the station after them, the first made first
-unfoldable pub afterCalls : Station → List Call → Station
-afterCalls st [] = st
-afterCalls st (call ∷ calls) = afterCalls (afterCall st call) calls
+unfoldable pub afterCalls : Station → ℕ → List Call → Station
+afterCalls st card [] = st
+afterCalls st card (call ∷ calls) = afterCalls (afterCall st card call) card calls
 
 -- and their answers, in that order
-unfoldable pub answersTo : Station → List Call → List (List ℕ)
-answersTo st [] = []
-answersTo st (call ∷ calls) = answerIn st call ∷ answersTo (afterCall st call) calls
+unfoldable pub answersTo : Station → ℕ → List Call → List (List ℕ)
+answersTo st card [] = []
+answersTo st card (call ∷ calls) = answerIn st card call ∷ answersTo (afterCall st card call) card calls
 
 -- ---- what a field leads to, in the paper's numbers: 0, its tag and the call's own answer, which a remark has not; 0 and 0 at the end of the block; or the
 -- number that says no to the field, and its place
@@ -46,23 +47,23 @@ toldPaper Remark = 0 ∷ 3 ∷ []
 toldPaper (Refused why at) = whyNumber why ∷ at ∷ []
 
 -- the answer of the one call among these, if there is one
-abbrev pub answerAmong : Station → List Call → List ℕ
-answerAmong st [] = []
-answerAmong st (call ∷ calls) = answerIn st call
+abbrev pub answerAmong : Station → ℕ → List Call → List ℕ
+answerAmong st card [] = []
+answerAmong st card (call ∷ calls) = answerIn st card call
 
 -- what the field at a place leads to: at the end of the block, by its tests, and as its call
-unfoldable pub fieldSays : Station → List ℕ → ℕ → List ℕ
-fieldSays st block at =
+unfoldable pub fieldSays : Station → ℕ → List ℕ → ℕ → List ℕ
+fieldSays st card block at =
     let rest = drop at block in
-    pick (leb (length block) at) (0 ∷ 0 ∷ []) (answerOf (testsIn at rest) (tagIn rest ∷ answerAmong st (callIn rest)))
+    pick (leb (length block) at) (0 ∷ 0 ∷ []) (answerOf (testsIn at rest) (tagIn rest ∷ answerAmong st card (callIn rest)))
 
 -- the calls of the field at a place: none where it is refused, and at the end
 unfoldable pub callsAt : List ℕ → ℕ → List Call
 callsAt block at = pick (isGood (drop at block)) (callIn (drop at block)) []
 
-pub record Takes (st : Station) (block : List ℕ) (at : ℕ) (r : Taken) : Type 0 where
-  pub answer : toldPaper (r .told) ≡ fieldSays st block at
-  pub station : r .station ≡ afterCalls st (callsAt block at)
+pub record Takes (st : Station) (card : ℕ) (block : List ℕ) (at : ℕ) (r : Taken) : Type 0 where
+  pub answer : toldPaper (r .told) ≡ fieldSays st card block at
+  pub station : r .station ≡ afterCalls st card (callsAt block at)
   pub next : r .after ≡ at + sizeAt block at
 
 -- ---- one call of it
@@ -71,7 +72,7 @@ abbrev pub tagOf : Call → ℕ
 tagOf (Offer c epoch s) = 1
 tagOf (Reset c) = 2
 
-pub record Makes (st : Station) (call : Call) (after : ℕ) (r : Taken) : Type 0 where
-  pub answer : toldPaper (r .told) ≡ 0 ∷ tagOf call ∷ answerIn st call
-  pub station : r .station ≡ afterCall st call
+pub record Makes (st : Station) (card : ℕ) (call : Call) (after : ℕ) (r : Taken) : Type 0 where
+  pub answer : toldPaper (r .told) ≡ 0 ∷ tagOf call ∷ answerIn st card call
+  pub station : r .station ≡ afterCall st card call
   pub next : r .after ≡ after

@@ -7,14 +7,14 @@ use station::Station;
 ghost use mathlib.Core.Path.{_≡_};
 ghost use Rattle.blocks.specs.Handing.{isLast, endedBy, HandsOver};
 
-// Does the fields of a block in the order written, up to its end or to the first that is refused.
-pub fn hand_over(st: Station, block: &[u8]) -> Handed
-    ensures { λ r. ⌜ HandsOver st (now (block .entry)) r ⌝ }
+// Does the fields of a block, which a card hands over, in the order written, up to its end or to the first that is refused.
+pub fn hand_over(st: Station, card: u8, block: &[u8]) -> Handed
+    ensures { λ r. ⌜ HandsOver st card (now (block .entry)) r ⌝ }
 {
     let mut next = st;
     let mut at = 0;
     loop {
-        let taken = take_field(next, block, at);
+        let taken = take_field(next, card, block, at);
         next = taken.station;
         let told = taken.told;
         if is_last(told) {

@@ -12,17 +12,17 @@ ghost use lib.ListN.{length};
 ghost use Rattle.fields.specs.Block.{Reset, offerOf};
 ghost use Rattle.blocks.specs.Taking.{Makes, Takes};
 
-// Does the field at a place. A call's own refusal is its answer, and stops nothing.
-pub fn take_field(st: Station, block: &[u8], at: usize) -> Taken
-    ensures { λ r. ⌜ Takes st (now (block .entry)) at r ⌝ }
+// Does the field at a place, asked by a card. A call's own refusal is its answer, and stops nothing.
+pub fn take_field(st: Station, card: u8, block: &[u8], at: usize) -> Taken
+    ensures { λ r. ⌜ Takes st card (now (block .entry)) at r ⌝ }
 {
     let found = next_at(block, at);
     let field = found.field;
     let after = found.after;
     match field {
         Field::End => no_call(st, Told::End, after),
-        Field::Offer(body) => offer_field(st, &block[body..body + 16], after),
-        Field::Reset(body) => reset_field(st, block[body], after),
+        Field::Offer(body) => offer_field(st, card, &block[body..body + 16], after),
+        Field::Reset(body) => reset_field(st, card, block[body], after),
         Field::Remark => no_call(st, Told::Remark, after),
         Field::Refused(why, place) => no_call(st, Told::Refused(why, place), after),
     }
@@ -40,13 +40,13 @@ fn no_call(st: Station, told: Told, after: usize) -> Taken
 }
 
 // An offer, from its sixteen bytes.
-fn offer_field(st: Station, body: &[u8], after: usize) -> Taken
+fn offer_field(st: Station, card: u8, body: &[u8], after: usize) -> Taken
     requires { ⌜ length (now body) ≡ 16 ⌝ }
-    ensures { λ r. ⌜ Makes st (offerOf (now (body .entry))) after r ⌝ }
+    ensures { λ r. ⌜ Makes st card (offerOf (now (body .entry))) after r ⌝ }
 {
     let channel = channel_in(body);
     let epoch = epoch_in(body);
-    let stepped = station::offer(st, channel, epoch, symbols_in(body));
+    let stepped = station::offer(st, card, channel, epoch, symbols_in(body));
     let next = stepped.station;
     let answer = stepped.answer;
     Taken {
@@ -57,10 +57,10 @@ fn offer_field(st: Station, body: &[u8], after: usize) -> Taken
 }
 
 // A reset of a channel.
-fn reset_field(st: Station, channel: u8, after: usize) -> Taken
-    ensures { λ r. ⌜ Makes st (Reset channel) after r ⌝ }
+fn reset_field(st: Station, card: u8, channel: u8, after: usize) -> Taken
+    ensures { λ r. ⌜ Makes st card (Reset channel) after r ⌝ }
 {
-    let emptied = station::reset(st, channel);
+    let emptied = station::reset(st, card, channel);
     let next = emptied.station;
     let answer = emptied.answer;
     Taken {

@@ -1,4 +1,4 @@
-// A first program: three offers to a fresh station, and a line about each answer.
+// A first program: four offers to a fresh station, by two cards, and a line about each answer.
 use channel::Answer;
 use libc::STDOUT_FILENO;
 
@@ -20,18 +20,22 @@ const B: [u8; 11] = [
 fn main() {
     let st = station::fresh();
     let b = B;
-    let first = station::offer(st, 0, 100, &b);
+    let first = station::offer(st, 1, 0, 100, &b);
     let heard = first.station;
     let answer = first.answer;
     tell(answer);
     // 14 epochs later it is off the beat of 15
-    let second = station::offer(heard, 0, 114, &b);
+    let second = station::offer(heard, 1, 0, 114, &b);
     let after = second.station;
     let answer = second.answer;
     tell(answer);
-    // there are channels 0 to 23
-    let third = station::offer(after, 24, 115, &b);
+    // channels 24 to 47 are card two's
+    let third = station::offer(after, 1, 24, 115, &b);
+    let same = third.station;
     let answer = third.answer;
+    tell(answer);
+    let fourth = station::offer(same, 2, 24, 115, &b);
+    let answer = fourth.answer;
     tell(answer);
 }
 

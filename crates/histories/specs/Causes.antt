@@ -25,24 +25,24 @@ use Rattle.station.specs.History.{Call, Offer, Reset, callsOn, stationOf}
 
 -- two calls on channel 4 before the reset, and one on channel 5
 abbrev pub before : List Call
-before = Reset 4 ∷ Offer 4 100 oneEven ∷ Offer 5 100 ten ∷ Offer 4 100 one ∷ []
+before = Reset 1 4 ∷ Offer 1 4 100 oneEven ∷ Offer 1 5 100 ten ∷ Offer 1 4 100 one ∷ []
 
 -- then, the latest first: taken, 9, 8, 7, already held with a bit repaired, 5, 4, 33, 32, 31, 2, taken, 6
 abbrev pub tenCalls : List Call
 tenCalls =
-    Offer 4 104 five
-    ∷ Offer 4 100 (sent 1 1)
-    ∷ Offer 4 114 one
-    ∷ Offer 4 99 one
-    ∷ Offer 4 100 (sentWrong 1 0 9)
-    ∷ Offer 4 100 zeros
-    ∷ Offer 4 100 (inBytes (encode (2 ^ 84 + 2 ^ 80)))
-    ∷ Offer 4 100 oneOutside
-    ∷ Offer 4 100 oneEven
-    ∷ Offer 4 100 oneUnplaced
-    ∷ Offer 4 100 ten
-    ∷ Offer 4 100 one
-    ∷ Offer 4 4 six1
+    Offer 1 4 104 five
+    ∷ Offer 1 4 100 (sent 1 1)
+    ∷ Offer 1 4 114 one
+    ∷ Offer 1 4 99 one
+    ∷ Offer 1 4 100 (sentWrong 1 0 9)
+    ∷ Offer 1 4 100 zeros
+    ∷ Offer 1 4 100 (inBytes (encode (2 ^ 84 + 2 ^ 80)))
+    ∷ Offer 1 4 100 oneOutside
+    ∷ Offer 1 4 100 oneEven
+    ∷ Offer 1 4 100 oneUnplaced
+    ∷ Offer 1 4 100 ten
+    ∷ Offer 1 4 100 one
+    ∷ Offer 1 4 4 six1
     ∷ before
 
 -- how many offers are of each sort, and of each cause
@@ -72,7 +72,7 @@ pub record TenCauses : Type 0 where
       ∷ (6 ∷ [])
       ∷ []
   pub counted-alone : counts (outcomes (callsOn 4 tenCalls)) ≡ fourteenCounts
-  pub before-reset : counts (outcomes (callsOn 4 (Offer 4 100 oneEven ∷ Offer 5 100 ten ∷ Offer 4 100 one ∷ []))) ≡ 2 ∷ 1 ∷ 0 ∷ 1 ∷ 0 ∷ 0 ∷ 1 ∷ 0 ∷ 0 ∷ 0 ∷ 0 ∷ 0 ∷ 0 ∷ 0 ∷ []
+  pub before-reset : counts (outcomes (callsOn 4 (Offer 1 4 100 oneEven ∷ Offer 1 5 100 ten ∷ Offer 1 4 100 one ∷ []))) ≡ 2 ∷ 1 ∷ 0 ∷ 1 ∷ 0 ∷ 0 ∷ 1 ∷ 0 ∷ 0 ∷ 0 ∷ 0 ∷ 0 ∷ 0 ∷ 0 ∷ []
   pub told : allCounts (rowAt left 4 .tallies) ≡ fourteenCounts
   pub other-told : allCounts (rowAt left 5 .tallies) ≡ 1 ∷ 0 ∷ 0 ∷ 1 ∷ 1 ∷ 0 ∷ 0 ∷ 0 ∷ 0 ∷ 0 ∷ 0 ∷ 0 ∷ 0 ∷ 0 ∷ []
 

@@ -1,3 +1,4 @@
 pub mod Witness
 pub mod Panel
 pub mod Causes
+pub mod Cards

@@ -1,4 +1,4 @@
--- The summary (request 5) along a history, computed from the definitions. Each frame shows one entry, by its strings 5, 6 and 7.
+-- The summary (request 5) along a history of two cards, computed from the definitions. Each frame shows one entry, by its strings 5, 6 and 7.
 -- Assumes nothing.
 use Prim.Native.Nat.{ℕ, _+_, _*_, _^_}
 use mathlib.Core.Bool.{Bool, true, false}
@@ -37,32 +37,32 @@ unfoldable pub six3 : List ℕ
 six3 = 0x20 ∷ 0x10 ∷ 0 ∷ 0 ∷ 0 ∷ 0 ∷ 0 ∷ 0 ∷ 0 ∷ 0x07 ∷ 0xE0 ∷ []
 
 -- ---- the history, the latest call first
--- strings 5 and 6 on a channel; and 7, which shows the entry
-abbrev pub almost : ℕ → List ℕ → List ℕ → List Call → List Call
-almost c fifth sixth cs = Offer c 105 sixth ∷ Offer c 104 fifth ∷ cs
+-- strings 5 and 6 on a card's channel; and 7, which shows the entry
+abbrev pub almost : ℕ → ℕ → List ℕ → List ℕ → List Call → List Call
+almost card c fifth sixth cs = Offer card c 105 sixth ∷ Offer card c 104 fifth ∷ cs
 
-abbrev pub shows : ℕ → List ℕ → List ℕ → List Call → List Call
-shows c fifth sixth cs = Offer c 106 seven ∷ almost c fifth sixth cs
+abbrev pub shows : ℕ → ℕ → List ℕ → List ℕ → List Call → List Call
+shows card c fifth sixth cs = Offer card c 106 seven ∷ almost card c fifth sixth cs
 
--- slot 1 of day 8766, slot 2 of 8767, slot 3 of 8768
+-- slot 1 of day 8766 by card one, slot 2 of 8767 by card two, slot 3 of 8768 by card one
 abbrev pub oneCalls : List Call
-oneCalls = shows 3 five six1 []
+oneCalls = shows 1 3 five six1 []
 
 abbrev pub twoCalls : List Call
-twoCalls = shows 7 fiveNext six2 oneCalls
+twoCalls = shows 2 31 fiveNext six2 oneCalls
 
 abbrev pub threeCalls : List Call
-threeCalls = shows 9 fiveThird six3 twoCalls
+threeCalls = shows 1 9 fiveThird six3 twoCalls
 
--- then slot 1 of day 8768; and the same entry, by another channel
+-- then slot 1 of day 8768 by card two; and the same entry, by another channel, of card one
 abbrev pub replacedCalls : List Call
-replacedCalls = shows 11 fiveThird six1 threeCalls
+replacedCalls = shows 2 35 fiveThird six1 threeCalls
 
 unfoldable pub beforeAgain : Station
-beforeAgain = stationOf (almost 12 fiveThird six1 replacedCalls)
+beforeAgain = stationOf (almost 1 12 fiveThird six1 replacedCalls)
 
 unfoldable pub again : Station
-again = stationAfter beforeAgain 12 106 seven
+again = stationAfter beforeAgain 1 12 106 seven
 
 -- a summary of nothing that is there, in the same station
 abbrev wrongly : Summary
@@ -83,23 +83,23 @@ pub record Panel : Type 0 where
   pub six3-sent : six3 ≡ sent 6 (3 * 2 ^ 64)
   -- "An empty book has count 0 and both days 0."; two strings of three show nothing
   pub none : stationOf [] .summary ≡ said 0 0 0
-  pub half : stationOf (almost 3 five six1 []) .summary ≡ said 0 0 0
+  pub half : stationOf (almost 1 3 five six1 []) .summary ≡ said 0 0 0
   -- "how many slots are filled, the oldest day and the newest"
   pub one-shown : stationOf oneCalls .summary ≡ said 1 8766 8766
   pub two-shown : stationOf twoCalls .summary ≡ said 2 8766 8767
   pub three-shown : stationOf threeCalls .summary ≡ said 3 8766 8768
   -- the one oldest entry is replaced by a newer day, and the oldest day rises: to one that stood neither in the summary nor in the new entry
   pub replaced : stationOf replacedCalls .summary ≡ said 3 8767 8768
-  -- the same entry, brought again by another channel whose string is newly stored: nothing changes, and book and summary stay
+  -- the same entry, brought again by another card's channel whose string is newly stored: nothing changes, and book and summary stay
   pub again-stored : storesIt (heldAt beforeAgain 12) 106 seven ≡ true
   pub again-equal : changesBySeven beforeAgain 12 ≡ false
   pub again-book : again .book ≡ beforeAgain .book
   pub again-summary : again .summary ≡ said 3 8767 8768
   -- of any station: there it stays although it is wrong, and is the walk of the book once an entry changes
-  pub wrong-stays : stationAfter (made beforeAgain wrongly) 12 106 seven .summary ≡ wrongly
-  pub wrong-corrected : stationAfter (made (stationOf (almost 11 fiveThird six1 threeCalls)) wrongly) 11 106 seven .summary ≡ said 3 8767 8768
+  pub wrong-stays : stationAfter (made beforeAgain wrongly) 1 12 106 seven .summary ≡ wrongly
+  pub wrong-corrected : stationAfter (made (stationOf (almost 2 35 fiveThird six1 threeCalls)) wrongly) 2 35 106 seven .summary ≡ said 3 8767 8768
   -- "A reset empties the row, record and tallies; the book stays", and its summary
-  pub reset-keeps : stationOf (Reset 11 ∷ replacedCalls) .summary ≡ said 3 8767 8768
+  pub reset-keeps : stationOf (Reset 2 35 ∷ replacedCalls) .summary ≡ said 3 8767 8768
 
 pub panel : Panel
 unfolding whole inBytes sent five six1 seven six2 fiveNext fiveThird six3 soundTests numberOf paddingOf misshapen wordOf flip stringBytes readRelative writeRelative firstSymbol position sumC sumAll syndrome sumsSet highest placed judge ruling mended sumsMade encode layout valuesOf firstBad entryOf greater isGood dayOf isShown threeOf shownBy emptyBook joined joinedShown oneMore causesAfter isPresent holdsFrame hasRecord emptyRow newFrame stored heldWith counted takenRow frameBy brought changes noneFilled withLine walkFrom walkOf freshStation noRow isServed stationAfter stationReset stationOf beforeAgain again

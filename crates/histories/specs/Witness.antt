@@ -73,10 +73,10 @@ damaged = 0x7F ∷ 0xFF ∷ 0xFF ∷ 0xFF ∷ 0xFF ∷ 0xFF ∷ 0xFF ∷ 0xFF �
 -- ---- histories, the latest call first, and the stations that they leave. Frames start at 100; one starts at 115
 -- on channel 3 strings 5 and 6; then string 7
 abbrev pub halfCalls : List Call
-halfCalls = Offer 3 105 six1 ∷ Offer 3 104 five ∷ []
+halfCalls = Offer 1 3 105 six1 ∷ Offer 1 3 104 five ∷ []
 
 abbrev pub entryCalls : List Call
-entryCalls = Offer 3 106 seven ∷ halfCalls
+entryCalls = Offer 1 3 106 seven ∷ halfCalls
 
 unfoldable pub half : Station
 half = stationOf halfCalls
@@ -86,22 +86,22 @@ entry = stationOf entryCalls
 
 -- strings 5 and 6, and then 5 and 7 of the next frame; of another channel
 unfoldable pub twoFrames : Station
-twoFrames = stationOf (Offer 3 121 seven ∷ Offer 3 119 five ∷ halfCalls)
+twoFrames = stationOf (Offer 1 3 121 seven ∷ Offer 1 3 119 five ∷ halfCalls)
 
 unfoldable pub twoChannels : Station
-twoChannels = stationOf (Offer 7 106 seven ∷ Offer 7 104 five ∷ halfCalls)
+twoChannels = stationOf (Offer 1 7 106 seven ∷ Offer 1 7 104 five ∷ halfCalls)
 
--- strings 5 and 6 on two channels, with the same nA and day and other bits; then string 7 on the one and on the other
+-- strings 5 and 6 on a channel of each card, with the same nA and day and other bits; then string 7 on the one and on the other
 abbrev pub tieCalls : List Call
-tieCalls = Offer 7 105 sixAbove ∷ Offer 7 104 five ∷ halfCalls
+tieCalls = Offer 2 31 105 sixAbove ∷ Offer 2 31 104 five ∷ halfCalls
 
 unfoldable pub greaterLast : Station
-greaterLast = stationOf (Offer 7 106 seven ∷ Offer 3 106 seven ∷ tieCalls)
+greaterLast = stationOf (Offer 2 31 106 seven ∷ Offer 1 3 106 seven ∷ tieCalls)
 
 unfoldable pub greaterFirst : Station
-greaterFirst = stationOf (Offer 3 106 seven ∷ Offer 7 106 seven ∷ tieCalls)
+greaterFirst = stationOf (Offer 1 3 106 seven ∷ Offer 2 31 106 seven ∷ tieCalls)
 
--- what these two leave, written out: the strings, plain; a row with strings 5, 6 and 7, all clean, and no record; rows 3 and 7 among empty ones; the book
+-- what these two leave, written out: the strings, plain; a row with strings 5, 6 and 7, all clean, and no record; rows 3 and 31 among empty ones; the book
 abbrev pub plainFive : List ℕ
 plainFive = 0x2D ∷ 0xB5 ∷ 0 ∷ 0 ∷ 0 ∷ 0 ∷ 0x18 ∷ 0 ∷ 0 ∷ 0x02 ∷ 0x60 ∷ []
 
@@ -132,7 +132,7 @@ heldRow sixth =
     }
 
 unfoldable pub tiedRows : List Row
-tiedRows = replicate 3 emptyRow ++ (heldRow plainSix ∷ (replicate 3 emptyRow ++ (heldRow plainSixAbove ∷ replicate 16 emptyRow)))
+tiedRows = replicate 3 emptyRow ++ (heldRow plainSix ∷ (replicate 27 emptyRow ++ (heldRow plainSixAbove ∷ replicate 16 emptyRow)))
 
 unfoldable pub tiedBook : Book
 tiedBook = record { entries = record { even = 9; odd = 2; day = 8766; etop = 1; otop = 0 } ∷ replicate 23 blank }
@@ -140,21 +140,21 @@ tiedBook = record { entries = record { even = 9; odd = 2; day = 8766; etop = 1; 
 -- the same, but channel 3 has the next day with the lesser bits
 unfoldable pub nextDay : Station
 nextDay =
-    stationOf (Offer 7 106 seven ∷ Offer 3 106 seven ∷ Offer 7 105 sixAbove ∷ Offer 7 104 five ∷ Offer 3 105 six1 ∷ Offer 3 104 fiveNext ∷ [])
+    stationOf (Offer 2 31 106 seven ∷ Offer 1 3 106 seven ∷ Offer 2 31 105 sixAbove ∷ Offer 2 31 104 five ∷ Offer 1 3 105 six1 ∷ Offer 1 3 104 fiveNext ∷ [])
 
 -- string 6 after 5, 7, 14 and 15
 unfoldable pub sixLast : Station
-sixLast = stationOf (Offer 3 105 six1 ∷ Offer 3 114 fifteen ∷ Offer 3 113 fourteen ∷ Offer 3 106 seven ∷ Offer 3 104 five ∷ [])
+sixLast = stationOf (Offer 1 3 105 six1 ∷ Offer 1 3 114 fifteen ∷ Offer 1 3 113 fourteen ∷ Offer 1 3 106 seven ∷ Offer 1 3 104 five ∷ [])
 
--- strings 1..4 on channel 3, strings 2, 3 and 4 being as given, or string 2 alone; then an entry on channel 7, string 6 being as given
+-- strings 1..4 on channel 3, strings 2, 3 and 4 being as given, or string 2 alone; then an entry on channel 31, by card two, string 6 being as given
 abbrev pub recordOf : List ℕ → List ℕ → List ℕ → List Call
-recordOf second third fourth = Offer 3 103 fourth ∷ Offer 3 102 third ∷ Offer 3 101 second ∷ Offer 3 100 one ∷ []
+recordOf second third fourth = Offer 1 3 103 fourth ∷ Offer 1 3 102 third ∷ Offer 1 3 101 second ∷ Offer 1 3 100 one ∷ []
 
 abbrev pub recordCalls : List ℕ → List Call
 recordCalls second = recordOf second three four
 
 abbrev pub thenEntry : List ℕ → List Call → List Call
-thenEntry sixth cs = Offer 7 106 seven ∷ Offer 7 105 sixth ∷ Offer 7 104 five ∷ cs
+thenEntry sixth cs = Offer 2 31 106 seven ∷ Offer 2 31 105 sixth ∷ Offer 2 31 104 five ∷ cs
 
 unfoldable pub recordAlone : Station
 recordAlone = stationOf (recordCalls two)
@@ -189,13 +189,13 @@ illRaised00 = raisedWith twoIll four00
 
 -- l 0 first, and in the next frame 1; then its string 4
 abbrev pub laterCalls : List Call
-laterCalls = Offer 3 117 threeRaised ∷ Offer 3 116 two ∷ Offer 3 115 one ∷ thenEntry sixGood (recordCalls two)
+laterCalls = Offer 1 3 117 threeRaised ∷ Offer 1 3 116 two ∷ Offer 1 3 115 one ∷ thenEntry sixGood (recordCalls two)
 
 unfoldable pub laterRaised : Station
 laterRaised = stationOf laterCalls
 
 unfoldable pub laterRecord : Station
-laterRecord = stationOf (Offer 3 118 four ∷ laterCalls)
+laterRecord = stationOf (Offer 1 3 118 four ∷ laterCalls)
 
 -- ---- what is told of them
 -- the entry of slot 1 that strings 5, `six1` and 7 show
@@ -205,8 +205,8 @@ lesser = record { day = 8766; even = 18446744073709551616; odd = 2 }
 abbrev pub slotOf : Station → ℕ → Three
 slotOf st k = meaning (inSlot (st .book) k)
 
-abbrev pub entryAsked : Station → ℕ → List ℕ
-entryAsked st k = answerOf (entryTests st k) (threeNumbers (slotOf st k))
+abbrev pub entryAsked : Station → ℕ → ℕ → List ℕ
+entryAsked st card k = answerOf (entryTests st card k) (threeNumbers (slotOf st k))
 
 abbrev pub healthOf : Station → ℕ → Health
 healthOf st c = healthBy (keptAt st c) (st .book)
@@ -232,12 +232,12 @@ pub record Witness : Type 0 where
   -- ---- the book
   -- strings 5, 6 and 7 of one frame show an entry: its day, and the bits of its two halves
   pub entry-there : slotOf entry 1 ≡ record { day = 8766; even = 18446744073709551616; odd = 2 }
-  pub entry-asked : entryAsked entry 1 ≡ 0 ∷ 8766 ∷ 18446744073709551616 ∷ 2 ∷ []
+  pub entry-asked : entryAsked entry 1 1 ≡ 0 ∷ 8766 ∷ 18446744073709551616 ∷ 2 ∷ []
   -- and it is shown still when the row was reset: "that any channel has shown since the start"
-  pub entry-shown : ShownIn (Reset 3 ∷ entryCalls) 1 lesser
+  pub entry-shown : ShownIn (Reset 1 3 ∷ entryCalls) 1 lesser
   -- one half never came: "a slot is empty exactly when none was shown"
   pub half-missing : inSlot (half .book) 1 .day ≡ 0
-  pub half-asked : entryAsked half 1 ≡ 13 ∷ []
+  pub half-asked : entryAsked half 1 1 ≡ 13 ∷ []
   -- "both halves and the day coming from one frame of one channel"
   pub two-frames : twoFrames .book ≡ emptyBook
   pub two-channels : twoChannels .book ≡ emptyBook
@@ -252,8 +252,8 @@ pub record Witness : Type 0 where
   pub last-summary : greaterLast .summary ≡ record { count = 1; oldest = 8766; newest = 8766 }
   pub first-summary : greaterFirst .summary ≡ record { count = 1; oldest = 8766; newest = 8766 }
   -- as are the answers
-  pub answer-alone : saidAfter tieCalls (Offer 3 106 seven) ≡ 0 ∷ 7 ∷ 0 ∷ 0 ∷ 1 ∷ 0 ∷ []
-  pub answer-after : saidAfter (Offer 7 106 seven ∷ tieCalls) (Offer 3 106 seven) ≡ 0 ∷ 7 ∷ 0 ∷ 0 ∷ 1 ∷ 0 ∷ []
+  pub answer-alone : saidAfter tieCalls (Offer 1 3 106 seven) ≡ 0 ∷ 7 ∷ 0 ∷ 0 ∷ 1 ∷ 0 ∷ []
+  pub answer-after : saidAfter (Offer 2 31 106 seven ∷ tieCalls) (Offer 1 3 106 seven) ≡ 0 ∷ 7 ∷ 0 ∷ 0 ∷ 1 ∷ 0 ∷ []
   -- "by day and then by bits"
   pub next-day : slotOf nextDay 1 ≡ record { day = 8767; even = 18446744073709551616; odd = 2 }
   -- "Each string newly stored brings all entries that its frame then shows to the book"
@@ -261,21 +261,21 @@ pub record Witness : Type 0 where
   pub six-last-5 : slotOf sixLast 5 ≡ record { day = 8766; even = 92233720368547758338; odd = 55340232221128654854 }
   -- ---- "a refused string changes nothing but its channel's tallies of strings offered and refused", and its own cause's
   pub tallies-before : rowAt entry 3 .tallies ≡ record { offered = 3; clean = 3; repaired = 0; refused = 0; causes = noneRefused }
-  pub refused-said : answerOf (stationTests entry 3 107 damaged) (toldIn entry 3 107 damaged) ≡ 32 ∷ []
-  pub refused-leaves : stationOf (Offer 3 107 damaged ∷ entryCalls) ≡ talliesMoved entry 3 (record { offered = 4; clean = 3; repaired = 0; refused = 1; causes = oneEvenRefused })
+  pub refused-said : answerOf (stationTests entry 1 3 107 damaged) (toldIn entry 3 107 damaged) ≡ 32 ∷ []
+  pub refused-leaves : stationOf (Offer 1 3 107 damaged ∷ entryCalls) ≡ talliesMoved entry 3 (record { offered = 4; clean = 3; repaired = 0; refused = 1; causes = oneEvenRefused })
   -- "one already held changes only tallies"
-  pub again-said : answerOf (stationTests entry 3 106 seven) (toldIn entry 3 106 seven) ≡ 0 ∷ 7 ∷ 0 ∷ 0 ∷ 0 ∷ 0 ∷ []
-  pub again-leaves : stationOf (Offer 3 106 seven ∷ entryCalls) ≡ talliesMoved entry 3 (record { offered = 4; clean = 4; repaired = 0; refused = 0; causes = noneRefused })
-  -- "CHANNEL changes nothing at all", and is tested first: ten bytes. Channel 23 is the last
-  pub channel-said : answerOf (stationTests entry 24 107 ten) (toldIn entry 24 107 ten) ≡ 1 ∷ []
-  pub channel-leaves : stationOf (Offer 24 107 one ∷ entryCalls) ≡ entry
-  pub channel-23 : answerOf (stationTests entry 23 107 one) (toldIn entry 23 107 one) ≡ 0 ∷ 1 ∷ 0 ∷ 0 ∷ 1 ∷ 0 ∷ []
-  pub no-reset-said : saidAfter entryCalls (Reset 24) ≡ 1 ∷ []
-  pub no-reset-leaves : stationOf (Reset 24 ∷ entryCalls) ≡ entry
+  pub again-said : answerOf (stationTests entry 1 3 106 seven) (toldIn entry 3 106 seven) ≡ 0 ∷ 7 ∷ 0 ∷ 0 ∷ 0 ∷ 0 ∷ []
+  pub again-leaves : stationOf (Offer 1 3 106 seven ∷ entryCalls) ≡ talliesMoved entry 3 (record { offered = 4; clean = 4; repaired = 0; refused = 0; causes = noneRefused })
+  -- "CHANNEL changes nothing at all", and is tested before SHAPE: ten bytes. Channel 23 is the last of card one's
+  pub channel-said : answerOf (stationTests entry 1 48 107 ten) (toldIn entry 48 107 ten) ≡ 1 ∷ []
+  pub channel-leaves : stationOf (Offer 1 48 107 one ∷ entryCalls) ≡ entry
+  pub channel-23 : answerOf (stationTests entry 1 23 107 one) (toldIn entry 23 107 one) ≡ 0 ∷ 1 ∷ 0 ∷ 0 ∷ 1 ∷ 0 ∷ []
+  pub no-reset-said : saidAfter entryCalls (Reset 1 48) ≡ 1 ∷ []
+  pub no-reset-leaves : stationOf (Reset 1 48 ∷ entryCalls) ≡ entry
   -- ---- "A reset empties the row, record and tallies; the book stays", and its summary
-  pub reset-said : saidAfter entryCalls (Reset 3) ≡ 0 ∷ []
-  pub reset-leaves : stationOf (Reset 3 ∷ entryCalls) ≡ record { rows = freshStation .rows; book = entry .book; summary = entry .summary }
-  pub reset-record : stationOf (Reset 3 ∷ recordCalls two) ≡ freshStation
+  pub reset-said : saidAfter entryCalls (Reset 1 3) ≡ 0 ∷ []
+  pub reset-leaves : stationOf (Reset 1 3 ∷ entryCalls) ≡ record { rows = freshStation .rows; book = entry .book; summary = entry .summary }
+  pub reset-record : stationOf (Reset 1 3 ∷ recordCalls two) ≡ freshStation
   -- ---- health
   -- with M 01 and l 0: "usable if the record has the top bit of B at 0 and the entry has C = 1, and not usable if either fails"
   pub usable : healthOf goodEntry 3 ≡ Usable
@@ -292,14 +292,14 @@ pub record Witness : Type 0 where
   pub later-raised : healthOf laterRaised 3 ≡ Usable
   pub later-record : healthOf laterRecord 3 ≡ NotUsable
   -- "Without a record, or without a book entry for its n, a channel's satellite is unknown"
-  pub no-record : healthOf goodEntry 7 ≡ Unknown
+  pub no-record : healthOf goodEntry 31 ≡ Unknown
   pub no-entry : healthOf recordAlone 3 ≡ Unknown
   -- ---- "Queries: 1 or 14, then 13"
-  pub slot-0 : entryAsked entry 0 ≡ 14 ∷ []
-  pub slot-25 : entryAsked entry 25 ≡ 14 ∷ []
-  pub record-there : answerOf (recordTests goodEntry 3) [] ≡ 0 ∷ []
-  pub record-absent : answerOf (recordTests goodEntry 7) [] ≡ 13 ∷ []
-  pub record-channel : answerOf (recordTests goodEntry 24) [] ≡ 1 ∷ []
+  pub slot-0 : entryAsked entry 1 0 ≡ 14 ∷ []
+  pub slot-25 : entryAsked entry 1 25 ≡ 14 ∷ []
+  pub record-there : answerOf (recordTests goodEntry 1 3) [] ≡ 0 ∷ []
+  pub record-absent : answerOf (recordTests goodEntry 2 31) [] ≡ 13 ∷ []
+  pub record-channel : answerOf (recordTests goodEntry 1 48) [] ≡ 1 ∷ []
 
 pub witness : Witness
 unfolding whole inBytes sent sentDamaged one two three four four′ five six1 seven fourteen fifteen six2 sixAbove sixGood fiveNext twoIll threeRaised four00 four11 damaged soundTests numberOf paddingOf misshapen wordOf flip stringBytes readRelative writeRelative firstSymbol position sumC sumAll syndrome sumsSet highest placed judge ruling mended sumsMade encode layout valuesOf firstBad entryOf greater isGood dayOf isShown threeOf shownBy emptyBook joined joinedShown oneMore causesAfter isPresent holdsFrame hasRecord emptyRow newFrame stored heldWith counted takenRow frameBy brought changes noneFilled withLine walkFrom walkOf heldAfter freshStation noRow isServed stationAfter stationReset judged healthBy callsOn saidAfter stationOf half entry twoFrames twoChannels greaterLast greaterFirst tiedRows tiedBook nextDay sixLast recordAlone goodEntry illEntry illRecord raised01 raised10 raised11 raised00 illRaised00 laterRaised laterRecord
@@ -318,6 +318,7 @@ witness =
       entry-asked = refl;
       entry-shown =
           record {
+            card = 1;
             channel = 3;
             served = refl;
             moment = callsOn 3 entryCalls;

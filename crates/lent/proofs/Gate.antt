@@ -29,29 +29,31 @@ use Rattle.station.proofs.Served.{served-below, zero-served, number-said}
 use Rattle.station.proofs.gate_number as gate′
 use Rattle.lent.proofs.Parts.{rowBytes}
 
-module _ (c r : ℕ) (er : r ≡ firstOf (gateTests c)) where
-  pub shut-out : T (ltb 0 r) → (isServed c ≡ false) × (shutSays c ≡ r ∷ [])
-  shut-out t = number-said c r er (ltb→lt 0 r t)
+module _ (card c r : ℕ) (er : r ≡ firstOf (gateTests card c)) where
+  pub shut-out : T (ltb 0 r) → (isServed card c ≡ false) × (shutSays card c ≡ r ∷ [])
+  shut-out t = number-said card c r er (ltb→lt 0 r t)
 
-  pub let-in : T (not (ltb 0 r)) → isServed c ≡ true
-  let-in n = let z : r ≡ 0 = omega (arith, nltb→le 0 r n) in zero-served c (sym er ∙ z)
+  pub let-in : T (not (ltb 0 r)) → isServed card c ≡ true
+  let-in n = let z : r ≡ 0 = omega (arith, nltb→le 0 r n) in zero-served card c (sym er ∙ z)
 
-pub served : (c : ℕ) → isServed c ≡ true → c < channels
-served c n = served-below c n
+pub served : (card c : ℕ) → isServed card c ≡ true → c < channels
+served card c n = served-below card c n
 
-pub wide : (c : ℕ) → isServed c ≡ true → c < 2 ^ 64
-wide c n = omega (arith, served c n)
+pub wide : (card c : ℕ) → isServed card c ≡ true → c < 2 ^ 64
+wide card c n = omega (arith, served card c n)
 
-pub in-bytes : (c : ℕ) → isServed c ≡ true → c * rowBytes < 2 ^ 64
-in-bytes c n = omega (arith, served c n)
+pub in-bytes : (card c : ℕ) → isServed card c ≡ true → c * rowBytes < 2 ^ 64
+in-bytes card c n = omega (arith, served card c n)
 
 -- the contract that a walk cites, and what it asks
 module _ {M : Type 1} (𝓤 : URA M) (H : Heap 𝓤) (A : Atoms 𝓤) (mem : Memory → SProp 𝓤) (run : Routine → Fun 𝓤) where
   abbrev pub GateNumber : Contract 𝓤
   GateNumber = tripleOf 𝓤 H A gate′.signature (gate′.spec 𝓤 H A mem run)
 
-  abbrev pub to-gate : ℕ → GateNumber .Ghost
-  to-gate c = ((tt, tt, tt, (c, tt), (vint w8 c ∷ [], tt)), tt)
+  abbrev pub to-gate : ℕ → ℕ → GateNumber .Ghost
+  to-gate card c = ((tt, tt, tt, (card, (c, tt)), (vint w8 card ∷ [], (vint w8 c ∷ [], tt))), tt)
 
-  pub goes-gate : Given 𝓤 H A → (c : ℕ) → c < 2 ^ 8 → ent 𝓤 (emp 𝓤) (GateNumber .pre (to-gate c))
-  goes-gate W c gc = qed W [] ∵ nothing ! $ owned ! u8 (Is u8) (uint-makes 𝓤 H A W w8) c _ (refl, gc) $ fjoin ! $ nothing ! $ join ! $ frame ! $ done !
+  pub goes-gate : Given 𝓤 H A → (card c : ℕ) → card < 2 ^ 8 → c < 2 ^ 8 → ent 𝓤 (emp 𝓤) (GateNumber .pre (to-gate card c))
+  goes-gate W card c gk gc =
+      qed W [] ∵ nothing ! $ owned ! u8 (Is u8) (uint-makes 𝓤 H A W w8) c _ (refl, gc) $ fjoin ! $ owned ! u8 (Is u8) (uint-makes 𝓤 H A W w8) card _ (refl, gk) $
+      fjoin ! $ nothing ! $ join ! $ frame ! $ done !

@@ -3,14 +3,14 @@
 -- Assumes nothing.
 use Prim.Native.Nat.{ℕ, zero, suc, _<_, _≤_, _/_, _%_, _*_, _^_}
 use native.Mathlib.Omega.{arith}
-use mathlib.Core.Bool.{Bool, true, false}
+use mathlib.Core.Bool.{Bool, true, false, not}
 use mathlib.Core.List.{List, [], _∷_, _++_}
 use mathlib.Core.Path.{_≡_, refl, sym, ap, subst, _∙_}
 use lib.Dec.{eqb, ltb, ltb→lt}
 use lib.ListN.{getD, take}
 use Rattle.strings.specs.Pick.{pick}
 use Rattle.strings.specs.declared.Refusal.{Refusal}
-use Rattle.strings.specs.declared.Refusal.the-variants.{Channel, Shape, Damaged, Idle, Number, Early, Stale, OffBeat, Conflict, Range, Place, Room, Nothing, Slot}
+use Rattle.strings.specs.declared.Refusal.the-variants.{Channel, Shape, Damaged, Idle, Number, Early, Stale, OffBeat, Conflict, Range, Place, Room, Nothing, Slot, Owner, Card}
 use Rattle.strings.specs.declared.hamming.Damage.the-variants.{Unplaced, Even, Outside}
 use Rattle.strings.specs.declared.Verdict.{Verdict}
 use Rattle.strings.specs.declared.Verdict.the-variants.{Clean, Repaired}
@@ -37,7 +37,7 @@ use Rattle.hearing.specs.Hears.{plainOf, wholeOf, verdictOf}
 use Rattle.station.specs.declared.Station.{Station}
 use Rattle.station.specs.declared.Stepped.{Stepped}
 use Rattle.station.specs.declared.Emptied.{Emptied}
-use Rattle.station.specs.Station.{lastChannel, heldAt, stationTests, toldIn, stationAfter, OffersTo, stationReset}
+use Rattle.station.specs.Station.{lastChannel, ownerOf, heldAt, isCard, stationTests, toldIn, stationAfter, OffersTo, stationReset}
 use Rattle.station.specs.History.{Call, Offer, Reset, Runs, offering, resetting}
 use Rattle.station.proofs.EveryHistory.{some-answer, offer-answers, reset-answer, reset-answers}
 use Rattle.told.specs.Told.{packed, AreBytes}
@@ -96,9 +96,9 @@ names-one n = by (ruling n) refl
     by (Sound v) e = names-bit n v e
     by (Bad d) e = tt
 
-module _ (st : Station) (c epoch : ℕ) (s : List ℕ) where
+module _ (st : Station) (card c epoch : ℕ) (s : List ℕ) where
   abbrev tests : List Test
-  tests = stationTests st c epoch s
+  tests = stationTests st card c epoch s
 
   small : firstOf tests < 256
   unfolding soundTests
@@ -123,50 +123,52 @@ module _ (st : Station) (c epoch : ℕ) (s : List ℕ) where
       (taken-small (numberIn n) (verdictOf (ruling (plainOf s))) (newsOf (heldAt st c) epoch n) (numberOf s) told-is-bytes)
 
 -- ---- the offer that a lent one is
-module _ (st : Station) (c epoch : ℕ) (s : List ℕ) where
+module _ (st : Station) (card c epoch : ℕ) (s : List ℕ) where
   abbrev step : Stepped
-  step = record { station = stationAfter st c epoch s; answer = some-answer st c epoch s .answer }
+  step = record { station = stationAfter st card c epoch s; answer = some-answer st card c epoch s .answer }
 
-  offered : OffersTo st c epoch s step
-  offered = offer-answers st c epoch s
+  offered : OffersTo st card c epoch s step
+  offered = offer-answers st card c epoch s
 
   module _ (st′ : Station) (r : ℕ) where
-    to-offer : OffersLent st c epoch s st′ r → AsOffered st c epoch s st′ r
+    to-offer : OffersLent st card c epoch s st′ r → AsOffered st card c epoch s st′ r
     to-offer o = record { step = step; offers = offered; answer = o .answer ∙ ap packed (sym (offered .answer)); station = o .station }
 
-    from-offer : AsOffered st c epoch s st′ r → OffersLent st c epoch s st′ r
+    from-offer : AsOffered st card c epoch s st′ r → OffersLent st card c epoch s st′ r
     from-offer o = record { answer = o .answer ∙ ap packed (o .offers .answer); station = o .station ∙ o .offers .station }
 
-    runs-on : (cs : List Call) → Runs cs st → OffersLent st c epoch s st′ r → Runs (Offer c epoch s ∷ cs) st′
-    runs-on cs run o = subst (Runs (Offer c epoch s ∷ cs)) (sym (o .station)) (offering c epoch s cs st step run offered)
+    runs-on : (cs : List Call) → Runs cs st → OffersLent st card c epoch s st′ r → Runs (Offer card c epoch s ∷ cs) st′
+    runs-on cs run o = subst (Runs (Offer card c epoch s ∷ cs)) (sym (o .station)) (offering card c epoch s cs st step run offered)
 
-    six-hold : OffersLent st c epoch s st′ r → r < 2 ^ 48
-    six-hold o = subst (λ (k : ℕ). k < 2 ^ 48) (sym (o .answer)) (answer-small st c epoch s)
+    six-hold : OffersLent st card c epoch s st′ r → r < 2 ^ 48
+    six-hold o = subst (λ (k : ℕ). k < 2 ^ 48) (sym (o .answer)) (answer-small st card c epoch s)
 
-  bytes : (r : Stepped) → OffersTo st c epoch s r → AreBytes (answerPaper (r .answer))
-  bytes r o = subst AreBytes (sym (o .answer)) (answer-bytes st c epoch s)
+  bytes : (r : Stepped) → OffersTo st card c epoch s r → AreBytes (answerPaper (r .answer))
+  bytes r o = subst AreBytes (sym (o .answer)) (answer-bytes st card c epoch s)
 
 -- ---- the reset that a lent one is
-module _ (st : Station) (c : ℕ) where
+module _ (st : Station) (card c : ℕ) where
   abbrev emptied : Emptied
-  emptied = record { station = stationReset st c; answer = reset-answer c }
+  emptied = record { station = stationReset st card c; answer = reset-answer card c }
 
   module _ (st′ : Station) (r : ℕ) where
-    to-reset : ResetsLent st c st′ r → AsReset st c st′ r
-    to-reset o = let e = reset-answers st c in record { step = emptied; resets = e; answer = o .answer ∙ ap packed (sym (e .answer)); station = o .station }
+    to-reset : ResetsLent st card c st′ r → AsReset st card c st′ r
+    to-reset o = let e = reset-answers st card c in record { step = emptied; resets = e; answer = o .answer ∙ ap packed (sym (e .answer)); station = o .station }
 
-    from-reset : AsReset st c st′ r → ResetsLent st c st′ r
+    from-reset : AsReset st card c st′ r → ResetsLent st card c st′ r
     from-reset o = record { answer = o .answer ∙ ap packed (o .resets .answer); station = o .station ∙ o .resets .station }
 
-    resets-on : (cs : List Call) → Runs cs st → ResetsLent st c st′ r → Runs (Reset c ∷ cs) st′
-    resets-on cs run o = subst (Runs (Reset c ∷ cs)) (sym (o .station)) (resetting c cs st emptied run (reset-answers st c))
+    resets-on : (cs : List Call) → Runs cs st → ResetsLent st card c st′ r → Runs (Reset card c ∷ cs) st′
+    resets-on cs run o = subst (Runs (Reset card c ∷ cs)) (sym (o .station)) (resetting card c cs st emptied run (reset-answers st card c))
 
-    bit-holds : ResetsLent st c st′ r → r < 2
-    bit-holds o = subst (λ (k : ℕ). k < 2) (sym (o .answer)) (by (ltb lastChannel c))
+    five-hold : ResetsLent st card c st′ r → r < 2 ^ 5
+    five-hold o = subst (λ (k : ℕ). k < 2 ^ 5) (sym (o .answer)) (by (not (isCard card)) (ltb lastChannel c) (not (eqb (ownerOf c) card)))
       where
-        by : (b : Bool) → packed (answerOf (test 1 b ∷ []) []) < 2
-        by true = omega arith
-        by false = omega arith
+        by : (b d e : Bool) → packed (answerOf (test 16 b ∷ test 1 d ∷ test 15 e ∷ []) []) < 2 ^ 5
+        by true d e = omega arith
+        by false true e = omega arith
+        by false false true = omega arith
+        by false false false = omega arith
 
 -- ---- an answer read back: five numbers after the 0, two where the first is 10, and else the first alone
 abbrev six : List ℕ → List ℕ
@@ -192,6 +194,8 @@ refusal-read Place = refl
 refusal-read Room = refl
 refusal-read Nothing = refl
 refusal-read Slot = refl
+refusal-read Owner = refl
+refusal-read Card = refl
 
 paper-read : (a : Answer) → told (six (answerPaper a)) ≡ answerPaper a
 paper-read (Taken m Clean w p) = refl
@@ -216,7 +220,7 @@ apart a b h k e =
 -- ---- the number tells the answer
 module _ {a : Answer} {n : ℕ} (t : ToldAs a n) where
   told-bytes : AreBytes (answerPaper a)
-  told-bytes = subst (λ (x : Answer). AreBytes (answerPaper x)) (t .answer) (bytes (t .before) (t .channel) (t .epoch) (t .bytes) (t .step) (t .offers))
+  told-bytes = subst (λ (x : Answer). AreBytes (answerPaper x)) (t .answer) (bytes (t .before) (t .card) (t .channel) (t .epoch) (t .bytes) (t .step) (t .offers))
 
   told-number : n ≡ packed (answerPaper a)
   told-number = t .lent .answer ∙ ap packed (sym (t .offers .answer)) ∙ ap (λ (x : Answer). packed (answerPaper x)) (t .answer)
@@ -225,13 +229,13 @@ module _ {a : Answer} {n : ℕ} (t : ToldAs a n) where
 pub laws : Laws
 laws =
     record {
-      as-offered = λ st c epoch s st′ r. (to-offer st c epoch s st′ r, from-offer st c epoch s st′ r);
-      runs = λ cs st c epoch s st′ r. runs-on st c epoch s st′ r cs;
-      as-reset = λ st c st′ r. (to-reset st c st′ r, from-reset st c st′ r);
-      runs-reset = λ cs st c st′ r. resets-on st c st′ r cs;
+      as-offered = λ st card c epoch s st′ r. (to-offer st card c epoch s st′ r, from-offer st card c epoch s st′ r);
+      runs = λ cs st card c epoch s st′ r. runs-on st card c epoch s st′ r cs;
+      as-reset = λ st card c st′ r. (to-reset st card c st′ r, from-reset st card c st′ r);
+      runs-reset = λ cs st card c st′ r. resets-on st card c st′ r cs;
       told-once = λ a b n t u. apart a b (told-bytes t) (told-bytes u) (sym (told-number t) ∙ told-number u);
       in-bytes = bytes;
       told-apart = apart;
       six-bytes = six-hold;
-      one-bit = bit-holds;
+      five-bits = five-hold;
     }

@@ -1,4 +1,5 @@
--- An offer to a station that is lent, and a reset of one, each changing it in its place (the paper, "Frames and the book" and "Numbers that say no"). For every station value.
+-- An offer to a station that is lent, and a reset of one, each changing it in its place (the paper, "Frames and the book" and "Numbers that say no"; request
+-- 10). For every station value, whichever card asks.
 -- Assumes nothing.
 use Prim.Native.Nat.{ℕ}
 use mathlib.Core.Bool.{Bool}
@@ -13,14 +14,14 @@ use Rattle.station.specs.Station.{stationTests, shutSays, toldIn, corrected, st
 use Rattle.told.specs.Told.{packed}
 
 -- the station left in its place, and the answer in the paper's numbers, the first in the lowest byte
-pub record OffersLent (st : Station) (c epoch : ℕ) (s : List ℕ) (st′ : Station) (r : ℕ) : Type 0 where
-  pub answer : r ≡ packed (answerOf (stationTests st c epoch s) (toldIn st c epoch s))
-  pub station : st′ ≡ stationAfter st c epoch s
+pub record OffersLent (st : Station) (card c epoch : ℕ) (s : List ℕ) (st′ : Station) (r : ℕ) : Type 0 where
+  pub answer : r ≡ packed (answerOf (stationTests st card c epoch s) (toldIn st c epoch s))
+  pub station : st′ ≡ stationAfter st card c epoch s
 
--- "Reset: 1": in the same way
-pub record ResetsLent (st : Station) (c : ℕ) (st′ : Station) (r : ℕ) : Type 0 where
-  pub answer : r ≡ packed (shutSays c)
-  pub station : st′ ≡ stationReset st c
+-- "Reset: 1", and the gate's other two: in the same way
+pub record ResetsLent (st : Station) (card c : ℕ) (st′ : Station) (r : ℕ) : Type 0 where
+  pub answer : r ≡ packed (shutSays card c)
+  pub station : st′ ≡ stationReset st card c
 
 -- one thing that is shown, joined to the book, and whether an entry changed; the rows and the summary as they were
 abbrev pub BringsOne : Station → Shown → Station → Bool → Type 0

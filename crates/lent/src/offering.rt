@@ -13,13 +13,20 @@ ghost use Rattle.book.specs.Book.{InBook};
 ghost use Rattle.shows.specs.Changes.{AllInBook};
 ghost use Rattle.lent.specs.Lent.{OffersLent, BringsAll, BringsOne, SumsUp};
 
-// Offers a string, in relative form and of any length, to a channel at an epoch. What the gate says no
-// to is told before anything of the station is read.
+// Offers a string, in relative form and of any length, to a channel at an epoch. Card 1 has channels 0
+// to 23, card 2 24 to 47. A card that is neither is told 16 CARD, a channel above 47 1 CHANNEL, and the
+// other card's 15 OWNER, before anything of the station is read.
 #[no_mangle]
-pub extern "C" fn spineyarrow_offer(st: &mut Station, channel: u8, epoch: u32, s: &[u8]) -> u64
-    ensures { λ r. ⌜ OffersLent (now (st .entry)) channel epoch (now (s .entry)) (now (st .exit)) r ⌝ }
+pub extern "C" fn spineyarrow_offer(
+    st: &mut Station,
+    card: u8,
+    channel: u8,
+    epoch: u32,
+    s: &[u8],
+) -> u64
+    ensures { λ r. ⌜ OffersLent (now (st .entry)) card channel epoch (now (s .entry)) (now (st .exit)) r ⌝ }
 {
-    let shut = gate_number(channel);
+    let shut = gate_number(card, channel);
     if 0 < shut {
         return shut;
     }

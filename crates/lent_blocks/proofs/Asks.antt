@@ -24,7 +24,7 @@ module _ {block : List ℕ} {at after : ℕ} {f : Field} (found : Finds block at
   asks-by k made l e n h =
       record {
         calls = l .calls ∙ n;
-        numbers = λ st. ap numbersIn (l .says st) ∙ ap₂ (λ (j : ℕ) (cs : List Call). j ∷ answerAmong st cs) (sym e) (sym (l .calls));
+        numbers = λ st card. ap numbersIn (l .says st card) ∙ ap₂ (λ (j : ℕ) (cs : List Call). j ∷ answerAmong st card cs) (sym e) (sym (l .calls));
         whole = λ p. h (sym e ∙ p);
       }
 
@@ -52,7 +52,7 @@ module _ {block : List ℕ} {at after : ℕ} {f : Field} (found : Finds block at
       let n = none-refused found why place e in
       record {
         calls = n ∙ none why p;
-        numbers = λ st. ap numbersIn (says-refused found why place e st) ∙ first why ∙ ap₂ (λ (j : ℕ) (cs : List Call). j ∷ answerAmong st cs) (sym p) (sym n);
+        numbers = λ st card. ap numbersIn (says-refused found why place e st card) ∙ first why ∙ ap₂ (λ (j : ℕ) (cs : List Call). j ∷ answerAmong st card cs) (sym p) (sym n);
         whole = λ q. absurd (above why (sym p ∙ q));
       }
     where

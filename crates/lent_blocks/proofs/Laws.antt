@@ -63,17 +63,17 @@ read-one (Refused Length at) rs = refl
 read-one (Refused Cut at) rs = refl
 
 -- ---- by value
-module _ {st : Station} {block : List ℕ} {at : ℕ} {st′ : Station} {r : ℕ} where
-  to-taken : TakesLent st block at st′ r → AsTaken st block at st′ r
+module _ {st : Station} {card : ℕ} {block : List ℕ} {at : ℕ} {st′ : Station} {r : ℕ} where
+  to-taken : TakesLent st card block at st′ r → AsTaken st card block at st′ r
   to-taken t =
-      let w = takes st block at in
-      record { taken = taken st block at; takes = w; answer = t .answer ∙ ap (λ (l : List ℕ). packed (numbersIn l)) (sym (w .answer)); station = t .station ∙ sym (w .station) }
+      let w = takes st card block at in
+      record { taken = taken st card block at; takes = w; answer = t .answer ∙ ap (λ (l : List ℕ). packed (numbersIn l)) (sym (w .answer)); station = t .station ∙ sym (w .station) }
 
-  from-taken : AsTaken st block at st′ r → TakesLent st block at st′ r
+  from-taken : AsTaken st card block at st′ r → TakesLent st card block at st′ r
   from-taken t =
       record { answer = t .answer ∙ ap (λ (l : List ℕ). packed (numbersIn l)) (t .takes .answer); station = t .station ∙ t .takes .station }
 
-  module _ {q : Taken} (t : TakesLent st block at st′ r) (k : Takes st block at q) where
+  module _ {q : Taken} (t : TakesLent st card block at st′ r) (k : Takes st card block at q) where
     by-value : r ≡ inOne (q .told)
     by-value = t .answer ∙ ap (λ (l : List ℕ). packed (numbersIn l)) (sym (k .answer))
 
@@ -84,10 +84,10 @@ module _ {st : Station} {block : List ℕ} {at : ℕ} {st′ : Station} {r : ℕ
     above = ap (λ (n : ℕ). n / 256) by-value ∙ the-rest (q .told)
 
 -- ---- a whole block
-record AsAlong (block : List ℕ) (st : Station) (at : ℕ) (rs : List ℕ) (last : Station) : Type 0 where
+record AsAlong (card : ℕ) (block : List ℕ) (st : Station) (at : ℕ) (rs : List ℕ) (last : Station) : Type 0 where
   answers : List (List ℕ)
   ended : Ended
-  along : Along block st at answers last ended
+  along : Along card block st at answers last ended
   read : answersRead rs ≡ map packed answers
 
 map-append : (xs ys : List (List ℕ)) → map packed (xs ++ ys) ≡ map packed xs ++ map packed ys
@@ -98,8 +98,8 @@ map-append (x ∷ xs) ys = ap (λ (l : List ℕ). packed x ∷ l) (map-append xs
 none-there : (t : Told) → answersIn t ≡ [] → map packed (answersIn t) ++ [] ≡ []
 none-there t e = ap (λ (l : List (List ℕ)). map packed l ++ []) e
 
-unmoved : {st : Station} {block : List ℕ} {at : ℕ} {r : Taken} → Takes st block at r → r .after ≡ at → answersIn (r .told) ≡ []
-unmoved {st} {block} {at} {r} t e = by (r .told) refl
+unmoved : {st : Station} {card : ℕ} {block : List ℕ} {at : ℕ} {r : Taken} → Takes st card block at r → r .after ≡ at → answersIn (r .told) ≡ []
+unmoved {r = r} t e = by (r .told) refl
   where
     by : (told : Told) → r .told ≡ told → answersIn (r .told) ≡ []
     by End p = ap answersIn p
@@ -108,23 +108,23 @@ unmoved {st} {block} {at} {r} t e = by (r .told) refl
     by Remark p = ap answersIn p
     by (Refused why at) p = ap answersIn p
 
-as-along : (block : List ℕ) (st : Station) (at : ℕ) (rs : List ℕ) (last : Station) → GoesThrough block st at rs last → AsAlong block st at rs last
-as-along block st at rs last (stops s k s′ r t e) =
+as-along : (card : ℕ) (block : List ℕ) (st : Station) (at : ℕ) (rs : List ℕ) (last : Station) → GoesThrough card block st at rs last → AsAlong card block st at rs last
+as-along card block st at rs last (stops s k s′ r t e) =
     let w = to-taken t in
     let a = w .takes in
     let n = a .next ∙ e in
     record {
       answers = [];
       ended = endedBy (w .taken .told);
-      along = subst (λ (x : Station). Along block s k [] x (endedBy (w .taken .told))) (sym (w .station)) (along-stops s k (w .taken) a n);
+      along = subst (λ (x : Station). Along card block s k [] x (endedBy (w .taken .told))) (sym (w .station)) (along-stops s k (w .taken) a n);
       read = ap (λ (j : ℕ). answersRead (j ∷ [])) (w .answer) ∙ read-one (w .taken .told) [] ∙ none-there (w .taken .told) (unmoved a n);
     }
-as-along block st at rs last (goes s k s′ r more l t n g) =
+as-along card block st at rs last (goes s k s′ r more l t n g) =
     let w = to-taken t in
     let a = w .takes in
-    let v : AsAlong block (w .taken .station) (w .taken .after) more l =
-    subst (λ (j : ℕ). AsAlong block (w .taken .station) j more l) (sym (a .next))
-    (subst (λ (x : Station). AsAlong block x (k + sizeAt block k) more l) (w .station) (as-along block s′ (k + sizeAt block k) more l g)) in
+    let v : AsAlong card block (w .taken .station) (w .taken .after) more l =
+    subst (λ (j : ℕ). AsAlong card block (w .taken .station) j more l) (sym (a .next))
+    (subst (λ (x : Station). AsAlong card block x (k + sizeAt block k) more l) (w .station) (as-along card block s′ (k + sizeAt block k) more l g)) in
     record {
       answers = answersIn (w .taken .told) ++ v .answers;
       ended = v .ended;
@@ -137,9 +137,9 @@ as-along block st at rs last (goes s k s′ r more l t n g) =
 pub laws : Laws
 laws =
     record {
-      as-taken = λ st block at st′ r. (to-taken, from-taken);
-      lowest = λ st block at st′ r q. lowest;
-      above = λ st block at st′ r q. above;
-      same-station = λ st block rs last h g o. let w = as-along block st 0 rs last g in block-laws .same-station st block (w .answers) last (w .ended) h (w .along) o .0;
-      same-answers = λ st block rs last g. let w = as-along block st 0 rs last g in w .read ∙ ap (map packed) (block-laws .as-calls st block (w .answers) last (w .ended) (w .along) .same-answers);
+      as-taken = λ st card block at st′ r. (to-taken, from-taken);
+      lowest = λ st card block at st′ r q. lowest;
+      above = λ st card block at st′ r q. above;
+      same-station = λ st card block rs last h g o. let w = as-along card block st 0 rs last g in block-laws .same-station st card block (w .answers) last (w .ended) h (w .along) o .0;
+      same-answers = λ st card block rs last g. let w = as-along card block st 0 rs last g in w .read ∙ ap (map packed) (block-laws .as-calls st card block (w .answers) last (w .ended) (w .along) .same-answers);
     }

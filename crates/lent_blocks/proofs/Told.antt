@@ -19,35 +19,35 @@ never : (b : Bool) → T (not b) → b ≡ false
 never true t = absurd t
 never false t = refl
 
-module _ {st : Station} {block : List ℕ} {at : ℕ} {r : Asked} (a : Asks block at r) where
-  one-call : (call : Call) (k tag : ℕ) (st′ : Station) → askedFor r (symbolsAt block at) ≡ call ∷ [] → r .told ≡ tag → k ≡ packed (answerIn st call)
-      → st′ ≡ afterCall st call → TakesLent st block at st′ (tag + 256 * k)
+module _ {st : Station} {card : ℕ} {block : List ℕ} {at : ℕ} {r : Asked} (a : Asks block at r) where
+  one-call : (call : Call) (k tag : ℕ) (st′ : Station) → askedFor r (symbolsAt block at) ≡ call ∷ [] → r .told ≡ tag → k ≡ packed (answerIn st card call)
+      → st′ ≡ afterCall st card call → TakesLent st card block at st′ (tag + 256 * k)
   unfolding afterCalls
   one-call call k tag st′ n e p q =
       let c = a .calls ∙ n in
-      let w : packed (r .told ∷ answerAmong st (call ∷ [])) ≡ tag + 256 * k = ap₂ (λ (i j : ℕ). i + 256 * j) e (sym p) in
+      let w : packed (r .told ∷ answerAmong st card (call ∷ [])) ≡ tag + 256 * k = ap₂ (λ (i j : ℕ). i + 256 * j) e (sym p) in
       record {
-        answer = sym (ap packed (a .numbers st ∙ ap (λ (cs : List Call). r .told ∷ answerAmong st cs) c) ∙ w);
-        station = q ∙ sym (ap (afterCalls st) c);
+        answer = sym (ap packed (a .numbers st card ∙ ap (λ (cs : List Call). r .told ∷ answerAmong st card cs) c) ∙ w);
+        station = q ∙ sym (ap (afterCalls st card) c);
       }
 
-  pub lent-offer : {s : List ℕ} {st′ : Station} {k : ℕ} → T (eqb (r .told) 1) → s ≡ symbolsAt block at → OffersLent st (r .channel) (r .epoch) s st′ k
-      → TakesLent st block at st′ (1 + 256 * k)
+  pub lent-offer : {s : List ℕ} {st′ : Station} {k : ℕ} → T (eqb (r .told) 1) → s ≡ symbolsAt block at → OffersLent st card (r .channel) (r .epoch) s st′ k
+      → TakesLent st card block at st′ (1 + 256 * k)
   unfolding answerIn afterCall
   lent-offer {s} {st′} {k} t w o =
       let e = eqb→eq (r .told) 1 t in
       one-call (Offer (r .channel) (r .epoch) s) k 1 st′ (rw (e, w) refl) e (o .answer) (o .station)
 
-  pub lent-reset : {st′ : Station} {k : ℕ} → T (eqb (r .told) 2) → ResetsLent st (r .channel) st′ k → TakesLent st block at st′ (2 + 256 * k)
+  pub lent-reset : {st′ : Station} {k : ℕ} → T (eqb (r .told) 2) → ResetsLent st card (r .channel) st′ k → TakesLent st card block at st′ (2 + 256 * k)
   unfolding answerIn afterCall
   lent-reset {st′} {k} t o =
       let e = eqb→eq (r .told) 2 t in
       one-call (Reset (r .channel)) k 2 st′ (rw e refl) e (o .answer) (o .station)
 
-  pub lent-none : T (not (eqb (r .told) 1)) → T (not (eqb (r .told) 2)) → TakesLent st block at st (r .told)
+  pub lent-none : T (not (eqb (r .told) 1)) → T (not (eqb (r .told) 2)) → TakesLent st card block at st (r .told)
   unfolding afterCalls
   lent-none t u =
       let n : askedFor r (symbolsAt block at) ≡ [] = rw (never (eqb (r .told) 1) t, never (eqb (r .told) 2) u) refl in
       let c = a .calls ∙ n in
       let w : packed (r .told ∷ []) ≡ r .told = omega arith in
-      record { answer = sym (ap packed (a .numbers st ∙ ap (λ (cs : List Call). r .told ∷ answerAmong st cs) c) ∙ w); station = sym (ap (afterCalls st) c) }
+      record { answer = sym (ap packed (a .numbers st card ∙ ap (λ (cs : List Call). r .told ∷ answerAmong st card cs) c) ∙ w); station = sym (ap (afterCalls st card) c) }

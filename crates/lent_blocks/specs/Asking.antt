@@ -23,7 +23,7 @@ askedFor r s = pick (eqb (r .told) 1) (Offer (r .channel) (r .epoch) s ∷ []) (
 
 pub record Asks (block : List ℕ) (at : ℕ) (r : Asked) : Type 0 where
   pub calls : callsAt block at ≡ askedFor r (symbolsAt block at)
-  -- whatever the station, this number is told first, and then the call's answer
-  pub numbers : (st : Station) → numbersIn (fieldSays st block at) ≡ r .told ∷ answerAmong st (callsAt block at)
+  -- whatever the station and the card, this number is told first, and then the call's answer
+  pub numbers : (st : Station) (card : ℕ) → numbersIn (fieldSays st card block at) ≡ r .told ∷ answerAmong st card (callsAt block at)
   -- an offer is there whole
   pub whole : r .told ≡ 1 → at + 19 ≤ length block

@@ -1,4 +1,5 @@
--- A field of a block, done on a station that is lent, and told in one number (the request "One transfer a second"). For any station, any bytes and any place.
+-- A field of a block, done on a station that is lent, and told in one number (the request "One transfer a second"). For any station, any
+-- card, any bytes and any place.
 -- Assumes nothing.
 use Prim.Native.Nat.{ℕ, zero, suc}
 use mathlib.Core.List.{List, [], _∷_}
@@ -15,6 +16,6 @@ numbersIn (zero ∷ told) = told
 numbersIn (suc n ∷ place) = suc n ∷ []
 
 -- the station left in its place, and these numbers, the first in the lowest byte
-pub record TakesLent (st : Station) (block : List ℕ) (at : ℕ) (st′ : Station) (r : ℕ) : Type 0 where
-  pub answer : r ≡ packed (numbersIn (fieldSays st block at))
-  pub station : st′ ≡ afterCalls st (callsAt block at)
+pub record TakesLent (st : Station) (card : ℕ) (block : List ℕ) (at : ℕ) (st′ : Station) (r : ℕ) : Type 0 where
+  pub answer : r ≡ packed (numbersIn (fieldSays st card block at))
+  pub station : st′ ≡ afterCalls st card (callsAt block at)

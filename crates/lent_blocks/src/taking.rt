@@ -10,19 +10,20 @@ ghost use Prim.Native.Nat.{_+_};
 ghost use Rattle.fields.specs.Fields.{sizeAt};
 ghost use Rattle.lent_blocks.specs.Taking.{TakesLent};
 
-// Does the field at a place, and tells it in one number: in its lowest byte 0 at the end of the block, 1
-// an offer, 2 a reset, 3 a remark, or what says no to the field; above that the numbers of the call's
-// own answer.
+// Does the field at a place, for the card that hands the block over, and tells it in one number: in its
+// lowest byte 0 at the end of the block, 1 an offer, 2 a reset, 3 a remark, or what says no to the
+// field; above that the numbers of the call's own answer.
 #[no_mangle]
-pub extern "C" fn spineyarrow_field(st: &mut Station, block: &[u8], at: usize) -> u64
-    ensures { λ r. ⌜ TakesLent (now (st .entry)) (now (block .entry)) at (now (st .exit)) r ⌝ }
+pub extern "C" fn spineyarrow_field(st: &mut Station, card: u8, block: &[u8], at: usize) -> u64
+    ensures { λ r. ⌜ TakesLent (now (st .entry)) card (now (block .entry)) at (now (st .exit)) r ⌝ }
 {
     let asked = asked_at(block, at);
     if asked.told == 1 {
-        return 1 + 256 * spineyarrow_offer(st, asked.channel, asked.epoch, symbols_at(block, at));
+        return 1
+            + 256 * spineyarrow_offer(st, card, asked.channel, asked.epoch, symbols_at(block, at));
     }
     if asked.told == 2 {
-        return 2 + 256 * spineyarrow_reset(st, asked.channel);
+        return 2 + 256 * spineyarrow_reset(st, card, asked.channel);
     }
     asked.told as u64
 }

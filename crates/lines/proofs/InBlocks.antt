@@ -10,12 +10,12 @@ use lib.Seq.{take-append-le, drop-append-le, drop-append-add}
 use Rattle.station.specs.declared.Station.{Station}
 use Rattle.station.specs.Station.{stationAfter}
 use Rattle.fields.specs.Sixteen.{channelIn, epochIn, symbolsIn}
-use Rattle.lines.specs.Line.{lineFor}
+use Rattle.lines.specs.Line.{speaksFor, lineFor}
 use Rattle.lines.specs.Text.{lineText, leftOver, recordAt, stationAt, linesAt, listing}
 
 -- a record offered, and its line
 abbrev offered : Station → List ℕ → Station
-offered st rec = stationAfter st (channelIn rec) (epochIn rec) (symbolsIn rec)
+offered st rec = stationAfter st speaksFor (channelIn rec) (epochIn rec) (symbolsIn rec)
 
 abbrev textOf : Station → List ℕ → List ℕ
 textOf st rec = lineText (lineFor st rec)

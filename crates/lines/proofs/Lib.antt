@@ -1,3 +1,4 @@
 pub mod Tells
 pub mod Block
 pub mod InBlocks
+pub mod Channels

@@ -11,7 +11,7 @@ use lib.ListN.{getD, drop}
 use borrow.Author.Tests.{eq-eqb, eqb-true}
 use Rattle.strings.specs.Pick.{pick, isOneOf}
 use Rattle.strings.specs.declared.Refusal.{Refusal}
-use Rattle.strings.specs.declared.Refusal.the-variants.{Channel, Shape, Damaged, Idle, Number, Early, Stale, OffBeat, Conflict, Range, Place, Room, Nothing, Slot}
+use Rattle.strings.specs.declared.Refusal.the-variants.{Channel, Shape, Damaged, Idle, Number, Early, Stale, OffBeat, Conflict, Range, Place, Room, Nothing, Slot, Owner, Card}
 use Rattle.strings.specs.declared.hamming.Damage.the-variants.{Unplaced, Even, Outside}
 use Rattle.strings.specs.declared.Verdict.{Verdict}
 use Rattle.strings.specs.declared.Verdict.the-variants.{Clean, Repaired}
@@ -38,7 +38,7 @@ use Rattle.lines.specs.declared.Line.{Line}
 use Rattle.lines.specs.declared.Listed.{Listed}
 use Rattle.seen.specs.declared.seeing.Seen.{Seen}
 use Rattle.fields.specs.Sixteen.{channelIn, epochIn, symbolsIn}
-use Rattle.lines.specs.Line.{beforeVerdict, beforeNumber, repairedFor, mFor, polarityFor, lineFor, Lists}
+use Rattle.lines.specs.Line.{speaksFor, beforeVerdict, beforeNumber, repairedFor, mFor, polarityFor, lineFor, Lists}
 use Rattle.seen.specs.Seen.{bitIn, seen, isHeard, seenIn, comesBeforeVerdict, seenBy}
 
 -- the refusals before the verdict are the paper's 1..4, with 31 to 33 for 3
@@ -59,6 +59,8 @@ comes-before Place = refl
 comes-before Room = refl
 comes-before Nothing = refl
 comes-before Slot = refl
+comes-before Owner = refl
+comes-before Card = refl
 
 -- ---- a refused string
 -- a number of both lists, and one of neither: what is seen again is what the paper tells
@@ -96,7 +98,7 @@ told-last m (Repaired i) w b = refl
 -- ---- what is seen by an answer is what the paper tells
 module _ (st : Station) (c epoch : ℕ) (s : List ℕ) where
   abbrev tests : List Test
-  tests = stationTests st c epoch s
+  tests = stationTests st speaksFor c epoch s
 
   abbrev told : ℕ → Seen
   told k = seen (repairedFor k s) (mFor k s) (polarityFor k s)
@@ -116,7 +118,7 @@ module _ (st : Station) (c epoch : ℕ) (s : List ℕ) where
 
   -- those before the place: the gate, and what is heard of the bytes
   abbrev first : List Test
-  first = gateTests c ++ hearTests s
+  first = gateTests speaksFor c ++ hearTests s
 
   abbrev after : List Test
   after = placeTests (heldAt st c) epoch (wholeOf s)
@@ -147,7 +149,7 @@ module _ (st : Station) (c epoch : ℕ) (s : List ℕ) where
       let m = numberIn (wholeOf s) in
       ⊎-elim (λ (h : T (heldBack k)). held-back (isOneOf beforeVerdict k) (isOneOf beforeNumber k) (isHeard s) bit m h)
       (λ (o : (firstOf first ≡ 0) × (k ≡ firstOf after)).
-      let heard = eq-eqb (firstOf (hearTests s)) 0 (past-gate c (hearTests s) (o .0)) in
+      let heard = eq-eqb (firstOf (hearTests s)) 0 (past-gate speaksFor c (hearTests s) (o .0)) in
       subst (λ (t : Bool). Again k t bit m) (sym heard) (place-seen k (o .1))) (first-by heldBack first after first-held)
 
   -- a refusal's number is not 0, so the line tells no polarity
@@ -161,10 +163,10 @@ module _ (st : Station) (c epoch : ℕ) (s : List ℕ) where
       ∙ ap (seen (repairedFor (firstOf tests) s) (mFor (firstOf tests) s)) (none-told q e)
 
   -- an answer's number is that of the first test that fits
-  pub number-is : (r : Stepped) → OffersTo st c epoch s r → getD (answerPaper (r .answer)) 0 0 ≡ firstOf tests
+  pub number-is : (r : Stepped) → OffersTo st speaksFor c epoch s r → getD (answerPaper (r .answer)) 0 0 ≡ firstOf tests
   number-is r o = ap (λ (l : List ℕ). getD l 0 0) (o .answer) ∙ first-said tests (toldIn st c epoch s)
 
-  pub seen-is : (r : Stepped) → OffersTo st c epoch s r → seenBy (r .answer) s ≡ told (firstOf tests)
+  pub seen-is : (r : Stepped) → OffersTo st speaksFor c epoch s r → seenBy (r .answer) s ≡ told (firstOf tests)
   unfolding seenBy
   seen-is r o = by (r .answer) (o .answer) (number-is r o)
     where
@@ -190,10 +192,10 @@ module _ (st : Station) (rec : List ℕ) where
   lineOf c epoch number x = record { channel = c; epoch = epoch; number = number; repaired = x .repaired; m = x .m; polarity = x .polarity }
 
   pub lists-by : (c epoch number : ℕ) (s : List ℕ) (r : Stepped) (x : Seen) → c ≡ channelIn rec → epoch ≡ epochIn rec → s ≡ symbolsIn rec
-      → OffersTo st c epoch s r → number ≡ getD (answerPaper (r .answer)) 0 0 → x ≡ seenBy (r .answer) s
+      → OffersTo st speaksFor c epoch s r → number ≡ getD (answerPaper (r .answer)) 0 0 → x ≡ seenBy (r .answer) s
       → Lists st rec (record { station = r .station; line = lineOf c epoch number x })
   lists-by c epoch number s r x d e f o n y =
-      let o : OffersTo st (channelIn rec) (epochIn rec) (symbolsIn rec) r = rw (← d, ← e, ← f) o in
+      let o : OffersTo st speaksFor (channelIn rec) (epochIn rec) (symbolsIn rec) r = rw (← d, ← e, ← f) o in
       let z = y ∙ ap (seenBy (r .answer)) f ∙ seen-is st (channelIn rec) (epochIn rec) (symbolsIn rec) r o in
       record {
         channel = d;

@@ -23,9 +23,9 @@ example = 0x00 ∷ 0x00 ∷ 0x00 ∷ 0x00 ∷ 0x64 ∷ (inverseB ++ (0x18 ∷ 0x
 abbrev pub first : List ℕ
 first = 48 ∷ space ∷ 49 ∷ 48 ∷ 48 ∷ space ∷ 48 ∷ space ∷ 48 ∷ space ∷ 49 ∷ space ∷ 49 ∷ lineFeed ∷ []
 
--- 24 7 1 0 0 0
+-- 24 7 15 0 0 0: "its channel 24 now prints 15 and then zeros"
 abbrev pub second : List ℕ
-second = 50 ∷ 52 ∷ space ∷ 55 ∷ space ∷ 49 ∷ space ∷ 48 ∷ space ∷ 48 ∷ space ∷ 48 ∷ lineFeed ∷ []
+second = 50 ∷ 52 ∷ space ∷ 55 ∷ space ∷ 49 ∷ 53 ∷ space ∷ 48 ∷ space ∷ 48 ∷ space ∷ 48 ∷ lineFeed ∷ []
 
 pub known : listing freshStation example ≡ first ++ (second ++ (short ++ (51 ∷ lineFeed ∷ [])))
 unfolding soundTests numberOf misshapen paddingOf wordOf flip readRelative firstSymbol position sumC sumAll syndrome sumsSet highest placed judge ruling mended emptyRow holdsFrame freshStation lineFor decimal lineText leftOver stationAt linesAt listing

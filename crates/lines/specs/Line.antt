@@ -17,20 +17,24 @@ use Rattle.station.specs.Station.{stationTests, stationAfter}
 use Rattle.lines.specs.declared.Line.{Line}
 use Rattle.lines.specs.declared.Listed.{Listed}
 
+-- ---- "the listing speaks for card one"
+abbrev pub speaksFor : ℕ
+speaksFor = 1
+
 -- ---- "number (0 if taken)": that of the first test that fits
 abbrev pub numberFor : Station → List ℕ → ℕ
-numberFor st rec = firstOf (stationTests st (channelIn rec) (epochIn rec) (symbolsIn rec))
+numberFor st rec = firstOf (stationTests st speaksFor (channelIn rec) (epochIn rec) (symbolsIn rec))
 
 -- ---- "repaired bit (0 if none or number 1..4)", and "the listing's zeros treat each as 3" of 31 to 33
 abbrev pub beforeVerdict : List ℕ
-beforeVerdict = 1 ∷ 2 ∷ 31 ∷ 32 ∷ 33 ∷ 4 ∷ []
+beforeVerdict = 16 ∷ 1 ∷ 15 ∷ 2 ∷ 31 ∷ 32 ∷ 33 ∷ 4 ∷ []
 
 abbrev pub repairedFor : ℕ → List ℕ → ℕ
 repairedFor number s = pick (isOneOf beforeVerdict number) 0 (bitIn (verdictIn s))
 
 -- ---- "m (0 for 1..5)", of the string as the check leaves it
 abbrev pub beforeNumber : List ℕ
-beforeNumber = 1 ∷ 2 ∷ 31 ∷ 32 ∷ 33 ∷ 4 ∷ 5 ∷ []
+beforeNumber = 16 ∷ 1 ∷ 15 ∷ 2 ∷ 31 ∷ 32 ∷ 33 ∷ 4 ∷ 5 ∷ []
 
 abbrev pub mFor : ℕ → List ℕ → ℕ
 mFor number s = pick (isOneOf beforeNumber number) 0 (numberIn (wholeOf s))
@@ -59,4 +63,4 @@ pub record Lists (st : Station) (rec : List ℕ) (r : Listed) : Type 0 where
   pub repaired : r .line .repaired ≡ repairedFor (numberFor st rec) (symbolsIn rec)
   pub m : r .line .m ≡ mFor (numberFor st rec) (symbolsIn rec)
   pub polarity : r .line .polarity ≡ polarityFor (numberFor st rec) (symbolsIn rec)
-  pub station : r .station ≡ stationAfter st (channelIn rec) (epochIn rec) (symbolsIn rec)
+  pub station : r .station ≡ stationAfter st speaksFor (channelIn rec) (epochIn rec) (symbolsIn rec)

@@ -17,7 +17,7 @@ use Rattle.seen.specs.Known.{sent, zeroRepaired, oneRepaired, oneUnplaced, oneE
 use Rattle.station.specs.declared.Station.{Station}
 use Rattle.station.specs.Station.{freshStation, isServed, stationAfter}
 use Rattle.lines.specs.declared.Line.{Line}
-use Rattle.lines.specs.Line.{lineFor}
+use Rattle.lines.specs.Line.{speaksFor, lineFor}
 
 -- a record on channel 0, and a line of it
 abbrev pub recordOf : ℕ → List ℕ → List ℕ
@@ -35,7 +35,7 @@ otherRepaired = sent (flip (encode (2 ^ 80 + 2 ^ 40)) 9)
 
 -- a station that has heard string 1 at epoch 100, on channel 0
 unfoldable pub heard : Station
-heard = stationAfter freshStation 0 100 B
+heard = stationAfter freshStation speaksFor 0 100 B
 
 pub record Refused : Type 0 where
   -- DAMAGED, by each of its causes, and IDLE tell neither, though bit 85 of the idle one was repaired

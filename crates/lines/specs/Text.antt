@@ -13,7 +13,7 @@ use Rattle.station.specs.declared.Station.{Station}
 use Rattle.station.specs.Station.{stationAfter}
 use Rattle.lines.specs.declared.Line.{Line}
 use Rattle.lines.specs.declared.Printed.{Printed}
-use Rattle.lines.specs.Line.{lineFor}
+use Rattle.lines.specs.Line.{speaksFor, lineFor}
 
 -- ---- a line
 -- "prints per record: channel, epoch, number .., repaired bit .., m", and the polarity
@@ -47,7 +47,7 @@ unfoldable pub stationAt : Station → List ℕ → ℕ → Station
 stationAt st input zero = st
 stationAt st input (suc k) =
     let rec = recordAt input k in
-    stationAfter (stationAt st input k) (channelIn rec) (epochIn rec) (symbolsIn rec)
+    stationAfter (stationAt st input k) speaksFor (channelIn rec) (epochIn rec) (symbolsIn rec)
 
 -- and their lines
 unfoldable pub linesAt : Station → List ℕ → ℕ → List ℕ

@@ -1,4 +1,5 @@
-// The listing: records of sixteen bytes offered to a station, and a line of six numbers for each.
+// The listing: records of sixteen bytes offered to a station for card one, and a line of six numbers
+// for each.
 mod printing;
 mod records;
 mod stream;

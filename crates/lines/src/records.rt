@@ -11,6 +11,9 @@ ghost use mathlib.Core.Path.{_≡_};
 ghost use lib.ListN.{length};
 ghost use Rattle.lines.specs.Line.{Lists};
 
+// The listing speaks for card one.
+const SPEAKS_FOR: u8 = 1;
+
 // Offers a record's string to its channel at its epoch.
 pub fn list_record(st: Station, rec: &[u8]) -> Listed
     requires { ⌜ length (now rec) ≡ 16 ⌝ }
@@ -19,7 +22,7 @@ pub fn list_record(st: Station, rec: &[u8]) -> Listed
     let channel = channel_in(rec);
     let epoch = epoch_in(rec);
     let symbols = symbols_in(rec);
-    let stepped = station::offer(st, channel, epoch, symbols);
+    let stepped = station::offer(st, SPEAKS_FOR, channel, epoch, symbols);
     let answer = stepped.answer;
     let seen = seen_by(answer, symbols);
     let after = stepped.station;

@@ -28,10 +28,10 @@ abbrev sixteen : List ℕ → ℕ → List ℕ
 sixteen input i = take (i * 16 + 16 - i * 16) (drop (i * 16) input)
 
 abbrev OfferedOf : Station → List ℕ → Stepped → Type 0
-OfferedOf st rec r = OffersTo st (channelIn rec) (epochIn rec) (symbolsIn rec) r
+OfferedOf st rec r = OffersTo st 1 (channelIn rec) (epochIn rec) (symbolsIn rec) r
 
-pub offered-of : {st : Station} {c d epoch time : ℕ} {s t : List ℕ} {r : Stepped} → c ≡ d → epoch ≡ time → s ≡ t → OffersTo st c epoch s r
-    → OffersTo st d time t r
+pub offered-of : {st : Station} {card c d epoch time : ℕ} {s t : List ℕ} {r : Stepped} → c ≡ d → epoch ≡ time → s ≡ t → OffersTo st card c epoch s r
+    → OffersTo st card d time t r
 offered-of e f g o = rw (← e, ← f, ← g) o
 
 pub none-yet : (input : List ℕ) (st : Station) → st ≡ freshStation → SoFar input st 0 0
@@ -47,8 +47,8 @@ one-more {input} {st} {sum} {i} {byte} {r} s o b =
     let p : OfferedOf st (take 16 (drop (i * 16) input)) r = subst (λ (k : ℕ). OfferedOf st (take k (drop (i * 16) input)) r) e o in
     rw add-one
     (record {
-      run = offering _ _ _ (callsIn input i) st r (s .run) p;
-      summed = ap₂ bitXor (s .summed) (b ∙ ap byteOf (offer-said (callsIn input i) st (s .run) _ _ _ r p));
+      run = offering _ _ _ _ (callsIn input i) st r (s .run) p;
+      summed = ap₂ bitXor (s .summed) (b ∙ ap byteOf (offer-said (callsIn input i) st (s .run) _ _ _ _ r p));
     })
 
 -- all of them, and a byte of the book

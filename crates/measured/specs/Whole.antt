@@ -11,9 +11,9 @@ use Rattle.book.specs.Book.{inSlot}
 use Rattle.fields.specs.Sixteen.{channelIn, epochIn, symbolsIn}
 use Rattle.station.specs.History.{Call, Offer, saidAfter, stationOf}
 
--- ---- record k of an input, counted from 0, as a call; and the first k of them, the latest first
+-- ---- record k of an input, counted from 0, as a call by card one; and the first k of them, the latest first
 abbrev pub callAt : List ℕ → ℕ → Call
-callAt input k = let rec = take 16 (drop (k * 16) input) in Offer (channelIn rec) (epochIn rec) (symbolsIn rec)
+callAt input k = let rec = take 16 (drop (k * 16) input) in Offer 1 (channelIn rec) (epochIn rec) (symbolsIn rec)
 
 unfoldable pub callsIn : List ℕ → ℕ → List Call
 callsIn input zero = []

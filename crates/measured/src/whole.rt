@@ -13,8 +13,8 @@ ghost use Rattle.fields.specs.Sixteen.{channelIn, epochIn, symbolsIn};
 ghost use Rattle.station.specs.Station.{OffersTo};
 ghost use Rattle.measured.specs.Whole.{byteOf, SumsUp};
 
-// Offers the records of an input, sixteen bytes each, to a fresh station, and adds up what they are
-// told and a byte of its book.
+// Offers the records of an input, sixteen bytes each, to a fresh station, by card one, and adds up what
+// they are told and a byte of its book.
 #[no_mangle]
 pub extern "C" fn measured_offers(input: &[u8]) -> u8
     ensures { λ r. ⌜ SumsUp (now (input .entry)) r ⌝ }
@@ -33,9 +33,9 @@ pub extern "C" fn measured_offers(input: &[u8]) -> u8
 
 fn offer_record(st: Station, rec: &[u8]) -> Stepped
     requires { ⌜ length (now rec) ≡ 16 ⌝ }
-    ensures { λ r. ⌜ OffersTo st (channelIn (now (rec .entry))) (epochIn (now (rec .entry))) (symbolsIn (now (rec .entry))) r ⌝ }
+    ensures { λ r. ⌜ OffersTo st 1 (channelIn (now (rec .entry))) (epochIn (now (rec .entry))) (symbolsIn (now (rec .entry))) r ⌝ }
 {
-    station::offer(st, channel_in(rec), epoch_in(rec), symbols_in(rec))
+    station::offer(st, 1, channel_in(rec), epoch_in(rec), symbols_in(rec))
 }
 
 fn byte_told(a: Answer) -> u8

@@ -1,4 +1,4 @@
--- What a fresh station that is handed a block answers in one byte.
+-- What a fresh station that is handed a block by card one answers in one byte.
 -- Assumes nothing.
 use Prim.Native.Nat.{ℕ}
 use mathlib.Core.List.{List}
@@ -10,4 +10,4 @@ use Rattle.blocks.specs.Taking.{afterCalls}
 
 -- the highest byte of the even half of slot 1
 abbrev pub TellsBlock : List ℕ → ℕ → Type 0
-TellsBlock block r = r ≡ inSlot (afterCalls freshStation (callsIn block) .book) 1 .etop
+TellsBlock block r = r ≡ inSlot (afterCalls freshStation 1 (callsIn block) .book) 1 .etop

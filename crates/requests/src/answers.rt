@@ -17,6 +17,9 @@ ghost use mathlib.Core.Path.{_≡_};
 ghost use lib.ListN.{getD};
 ghost use Rattle.strings.specs.Numbers.{verdictPaper};
 
+// What is used of the text for a request that is none, or of which the payload has no such length.
+pub(crate) const NO_LINE: usize = 0;
+
 // `no N`, for RANGE `no 10 PLACE`.
 pub(crate) fn say_no(text: &mut Text, r: Refusal) -> usize
     ensures { λ n. ⌜ n ≤ 512 ⌝ }

@@ -12,17 +12,17 @@ use station::Station;
 
 // The lines are those of its fields one by one; the station that is kept is that of the block as a
 // whole.
-pub(crate) fn block_call(block: &[u8], st: Station) -> Station {
-    print_fields(block, st);
-    let handed = hand_over(st, block);
+pub(crate) fn block_call(card: u8, block: &[u8], st: Station) -> Station {
+    print_fields(card, block, st);
+    let handed = hand_over(st, card, block);
     handed.station
 }
 
-fn print_fields(block: &[u8], st: Station) {
+fn print_fields(card: u8, block: &[u8], st: Station) {
     let mut next = st;
     let mut at = 0;
     loop {
-        let taken = take_field(next, block, at);
+        let taken = take_field(next, card, block, at);
         next = taken.station;
         let told = taken.told;
         print_told(told, 0);

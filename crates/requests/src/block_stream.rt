@@ -1,5 +1,6 @@
 // One block of any length from standard input. One field is held at a time.
 use crate::block_calls::print_told;
+use crate::cards::CARD_ONE;
 use crate::numbers::pair;
 use blocks::take_field;
 use libc::STDIN_FILENO;
@@ -37,7 +38,7 @@ fn pass_field(space: &mut [u8], st: Station, before: usize) -> Passed
     requires { ⌜ 65538 ≤ length (now space) ⌝ }
 {
     let got = read_field(space);
-    let taken = take_field(st, &space[0..got], 0);
+    let taken = take_field(st, CARD_ONE, &space[0..got], 0);
     let told = taken.told;
     print_told(told, before);
     let next = taken.station;
@@ -53,7 +54,7 @@ fn turn(space: &mut [u8; FIELD], st: Station, before: usize) -> Passed {
     pass_field(space, st, before)
 }
 
-// Hands the block to a fresh station, and prints a line for each of its calls and one for its end. It
+// Hands the block to a fresh station, for card one, and prints a line for each of its calls and one for its end. It
 // returns nothing and only reads and writes, of which no contract can speak: it promises nothing but
 // to end. Nothing says that the input ends, so the fields are counted down from a number that no run
 // uses up.

@@ -1,5 +1,5 @@
 // Requests 15 and 16: a signed word as a float, and the immediate record of four strings.
-use crate::answers::say_bad;
+use crate::answers::NO_LINE;
 use crate::answers::say_ok;
 use crate::line::Text;
 use crate::line::put_digits;
@@ -40,7 +40,7 @@ pub(crate) fn float_call(payload: &[u8], text: &mut Text) -> usize
     ensures { λ n. ⌜ n ≤ 512 ⌝ }
 {
     if payload.len() == 0 {
-        return say_bad(text, 15);
+        return NO_LINE;
     }
     let mut value: f64 = 0.0;
     let told = host::spineyarrow_word(&payload[1..], payload[0], &mut value);
@@ -70,28 +70,34 @@ pub(crate) fn record_call(payload: &[u8], text: &mut Text) -> usize
     ensures { λ n. ⌜ n ≤ 512 ⌝ }
 {
     let a = size_in(payload);
-    let two = &payload[a..];
-    let b = size_in(two);
-    let three = &two[b..];
-    let c = size_in(three);
-    let four = &three[c..];
-    let d = size_in(four);
     if a < 1 {
-        return say_bad(text, 16);
+        return NO_LINE;
     }
+    let rest = &payload[a..];
+    let b = size_in(rest);
     if b < 1 {
-        return say_bad(text, 16);
+        return NO_LINE;
     }
+    last_two(&payload[1..a], &rest[1..b], &rest[b..], text)
+}
+
+// The first two strings are read; nothing stands behind the last.
+fn last_two(one: &[u8], two: &[u8], payload: &[u8], text: &mut Text) -> usize
+    ensures { λ n. ⌜ n ≤ 512 ⌝ }
+{
+    let c = size_in(payload);
     if c < 1 {
-        return say_bad(text, 16);
+        return NO_LINE;
     }
+    let rest = &payload[c..];
+    let d = size_in(rest);
     if d < 1 {
-        return say_bad(text, 16);
+        return NO_LINE;
     }
-    if d < four.len() {
-        return say_bad(text, 16);
+    if d < rest.len() {
+        return NO_LINE;
     }
-    say_record(&payload[1..a], &two[1..b], &three[1..c], &four[1..d], text)
+    say_record(one, two, &payload[1..c], &rest[1..d], text)
 }
 
 // `ok`, the 26 words, and the 12 floats.

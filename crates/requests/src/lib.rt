@@ -1,9 +1,11 @@
 // Any public call, made by a request: one byte op, two bytes big-endian length, then that many bytes.
 // Requests come one after another on standard input, and each is answered by one line of output, but a
-// block by a line for each of its calls and one for its end. Or one block alone, of any length.
+// block by a line for each of its calls and one for its end. They speak for card one, or name the card
+// (`cards`). Or one block alone, of any length, for card one.
 mod answers;
 mod block_calls;
 mod block_stream;
+mod cards;
 mod float_calls;
 mod line;
 mod numbers;
@@ -16,10 +18,12 @@ mod word_calls;
 mod words_taken;
 mod words_told;
 
+use answers::NO_LINE;
 use answers::say_bad;
 use answers::say_short;
 use block_calls::block_call;
 pub use block_stream::list_block;
+use cards::who_asks;
 use float_calls::float_call;
 use float_calls::record_call;
 use libc::STDIN_FILENO;
@@ -47,35 +51,35 @@ struct Turned {
     more: bool,
 }
 
-// The line for one whole request, and the station after it.
-fn answer(op: u8, payload: &[u8], st: Station, text: &mut Text) -> Answered
+// The line for one whole request of a card, and the station after it.
+fn answer(request: u8, card: u8, payload: &[u8], st: Station, text: &mut Text) -> Answered
     ensures { λ r. ⌜ r .used ≤ 512 ⌝ }
 {
-    match op {
-        6 => offer_call(payload, st, text),
-        7 => reset_call(payload, st, text),
+    match request {
+        6 => offer_call(card, payload, st, text),
+        7 => reset_call(card, payload, st, text),
         12 => fresh_call(payload, st, text),
         _ => Answered {
             station: st,
-            used: told(op, payload, st, text),
+            used: told(request, card, payload, st, text),
         },
     }
 }
 
 // The line for a request that leaves the station as it was.
-fn told(op: u8, payload: &[u8], st: Station, text: &mut Text) -> usize
+fn told(request: u8, card: u8, payload: &[u8], st: Station, text: &mut Text) -> usize
     ensures { λ n. ⌜ n ≤ 512 ⌝ }
 {
-    match op {
-        1 | 2 | 3 => string_call(op, payload, text),
+    match request {
+        1 | 2 | 3 => string_call(request, payload, text),
         4 => read_call(payload, text),
         5 => write_call(payload, text),
-        8 | 9 | 10 | 11 | 23 => query_call(op, payload, st, text),
-        14 => summary_call(payload, st, text),
+        8 | 9 | 10 | 11 | 23 => query_call(request, card, payload, st, text),
+        14 => summary_call(card, payload, st, text),
         15 => float_call(payload, text),
         16 => record_call(payload, text),
         17 => salvage_call(payload, text),
-        _ => say_bad(text, op),
+        _ => NO_LINE,
     }
 }
 
@@ -127,13 +131,28 @@ fn finish(op: u8, size: usize, space: &mut [u8], st: Station) -> Turned
 
 // Prints the line for one whole request, or the lines of a block, and answers the station after it.
 fn print_answer(op: u8, payload: &[u8], st: Station) -> Station {
-    if op == 13 {
-        return block_call(payload, st);
+    let asking = who_asks(op, payload);
+    let from = asking.from;
+    let own = &payload[from..];
+    if asking.request == 13 {
+        return block_call(asking.card, own, st);
     }
     let mut text = [0u8; 512];
-    let answered = answer(op, payload, st, &mut text);
-    print(&mut text, answered.used);
+    let answered = answer(asking.request, asking.card, own, st, &mut text);
+    let n = line_or_bad(&mut text, answered.used, op);
+    print(&mut text, n);
     answered.station
+}
+
+// A request without a line is a bad one, and told by its op as it came.
+fn line_or_bad(text: &mut Text, n: usize, op: u8) -> usize
+    requires { ⌜ n ≤ 512 ⌝ }
+    ensures { λ r. ⌜ r ≤ 512 ⌝ }
+{
+    if n == NO_LINE {
+        return say_bad(text, op);
+    }
+    n
 }
 
 // Reads one request and prints its line.

@@ -1,5 +1,5 @@
 // Request 17: a torn file, salvaged with an output of so many bytes and a list of so many stretches.
-use crate::answers::say_bad;
+use crate::answers::NO_LINE;
 use crate::answers::say_ok;
 use crate::line::Text;
 use crate::line::put_hex;
@@ -17,10 +17,10 @@ pub(crate) fn salvage_call(payload: &[u8], text: &mut Text) -> usize
     ensures { λ n. ⌜ n ≤ 512 ⌝ }
 {
     if payload.len() < 2 {
-        return say_bad(text, 17);
+        return NO_LINE;
     }
     if payload.len() > 98 {
-        return say_bad(text, 17);
+        return NO_LINE;
     }
     let room = wide(payload[0]) as usize;
     let numbers = wide(payload[1]) as usize * 2;

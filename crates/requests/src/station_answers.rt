@@ -19,6 +19,7 @@ use station::EntryFound;
 use station::Health;
 use station::HealthFound;
 use station::RecordFound;
+use station::SummaryFound;
 use station::TalliesFound;
 use strings::Written;
 use summary::Summary;
@@ -150,7 +151,7 @@ fn put_tallies(text: &mut Text, t: Tallies) -> usize
     put_causes(text, refused, causes)
 }
 
-// The refused by cause, in the order of the tests.
+// The refused by cause, in the order of the tests: by 2 to 4, and then by 5 to 9.
 fn put_causes(text: &mut Text, at: usize, c: Causes) -> usize
     requires { ⌜ at ≤ 512 ⌝ }
     ensures { λ n. ⌜ n ≤ 512 ⌝ }
@@ -160,7 +161,14 @@ fn put_causes(text: &mut Text, at: usize, c: Causes) -> usize
     let even = put_next(text, unplaced, c.even as u64);
     let outside = put_next(text, even, c.outside as u64);
     let idle = put_next(text, outside, c.idle as u64);
-    let number = put_next(text, idle, c.number as u64);
+    put_later_causes(text, idle, c)
+}
+
+fn put_later_causes(text: &mut Text, at: usize, c: Causes) -> usize
+    requires { ⌜ at ≤ 512 ⌝ }
+    ensures { λ n. ⌜ n ≤ 512 ⌝ }
+{
+    let number = put_next(text, at, c.number as u64);
     let early = put_next(text, number, c.early as u64);
     let stale = put_next(text, early, c.stale as u64);
     let offbeat = put_next(text, stale, c.offbeat as u64);
@@ -168,7 +176,16 @@ fn put_causes(text: &mut Text, at: usize, c: Causes) -> usize
 }
 
 // `ok COUNT OLDEST NEWEST`.
-pub(crate) fn say_summary(text: &mut Text, s: Summary) -> usize
+pub(crate) fn say_summary(text: &mut Text, f: SummaryFound) -> usize
+    ensures { λ n. ⌜ n ≤ 512 ⌝ }
+{
+    match f {
+        SummaryFound::Refused(r) => say_no(text, r),
+        SummaryFound::Found(s) => put_summary(text, s),
+    }
+}
+
+fn put_summary(text: &mut Text, s: Summary) -> usize
     ensures { λ n. ⌜ n ≤ 512 ⌝ }
 {
     let ok = say_ok(text);

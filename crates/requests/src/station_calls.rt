@@ -1,5 +1,5 @@
 // Requests 6, 7 and 12: the calls that change the station.
-use crate::answers::say_bad;
+use crate::answers::NO_LINE;
 use crate::answers::say_ok;
 use crate::line::Text;
 use crate::station_answers::say_emptied;
@@ -16,25 +16,25 @@ pub(crate) struct Answered {
 }
 
 // A payload of no such length leaves the station as it was.
-fn bad_call(op: u8, st: Station, text: &mut Text) -> Answered
+fn no_call(st: Station) -> Answered
     ensures { λ r. ⌜ r .used ≤ 512 ⌝ }
 {
     Answered {
         station: st,
-        used: say_bad(text, op),
+        used: NO_LINE,
     }
 }
 
 // Request 6: the channel, the epoch in four bytes, then the string.
-pub(crate) fn offer_call(payload: &[u8], st: Station, text: &mut Text) -> Answered
+pub(crate) fn offer_call(card: u8, payload: &[u8], st: Station, text: &mut Text) -> Answered
     ensures { λ r. ⌜ r .used ≤ 512 ⌝ }
 {
     if payload.len() < 5 {
-        return bad_call(6, st, text);
+        return no_call(st);
     }
     let channel = channel_in(payload);
     let epoch = epoch_in(payload);
-    let stepped = station::offer(st, channel, epoch, &payload[5..]);
+    let stepped = station::offer(st, card, channel, epoch, &payload[5..]);
     let next = stepped.station;
     let answer = stepped.answer;
     Answered {
@@ -44,13 +44,13 @@ pub(crate) fn offer_call(payload: &[u8], st: Station, text: &mut Text) -> Answer
 }
 
 // Request 7: the channel.
-pub(crate) fn reset_call(payload: &[u8], st: Station, text: &mut Text) -> Answered
+pub(crate) fn reset_call(card: u8, payload: &[u8], st: Station, text: &mut Text) -> Answered
     ensures { λ r. ⌜ r .used ≤ 512 ⌝ }
 {
     if payload.len() != 1 {
-        return bad_call(7, st, text);
+        return no_call(st);
     }
-    let emptied = station::reset(st, payload[0]);
+    let emptied = station::reset(st, card, payload[0]);
     let next = emptied.station;
     let answer = emptied.answer;
     Answered {
@@ -64,7 +64,7 @@ pub(crate) fn fresh_call(payload: &[u8], st: Station, text: &mut Text) -> Answer
     ensures { λ r. ⌜ r .used ≤ 512 ⌝ }
 {
     if payload.len() != 0 {
-        return bad_call(12, st, text);
+        return no_call(st);
     }
     Answered {
         station: station::fresh(),

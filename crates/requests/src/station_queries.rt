@@ -1,5 +1,5 @@
 // Requests 8 to 11, 14 and 23: the calls that ask the station.
-use crate::answers::say_bad;
+use crate::answers::NO_LINE;
 use crate::line::Text;
 use crate::station_answers::say_entry;
 use crate::station_answers::say_entry_words;
@@ -11,34 +11,40 @@ use station::Station;
 ghost use Prim.Native.Nat.{_≤_};
 
 // The channel, or the slot for requests 9 and 23.
-pub(crate) fn query_call(op: u8, payload: &[u8], st: Station, text: &mut Text) -> usize
+pub(crate) fn query_call(
+    request: u8,
+    card: u8,
+    payload: &[u8],
+    st: Station,
+    text: &mut Text,
+) -> usize
     ensures { λ n. ⌜ n ≤ 512 ⌝ }
 {
     if payload.len() != 1 {
-        return say_bad(text, op);
+        return NO_LINE;
     }
-    query(op, payload[0], st, text)
+    query(request, card, payload[0], st, text)
 }
 
-fn query(op: u8, which: u8, st: Station, text: &mut Text) -> usize
+fn query(request: u8, card: u8, which: u8, st: Station, text: &mut Text) -> usize
     ensures { λ n. ⌜ n ≤ 512 ⌝ }
 {
-    match op {
-        8 => say_immediate(text, station::immediate_of(st, which)),
-        9 => say_entry(text, station::entry_of(st, which)),
-        10 => say_tallies(text, station::tallies_of(st, which)),
-        11 => say_health(text, station::health_of(st, which)),
-        23 => say_entry_words(text, station::entry_of(st, which)),
-        _ => say_bad(text, op),
+    match request {
+        8 => say_immediate(text, station::immediate_of(st, card, which)),
+        9 => say_entry(text, station::entry_of(st, card, which)),
+        10 => say_tallies(text, station::tallies_of(st, card, which)),
+        11 => say_health(text, station::health_of(st, card, which)),
+        23 => say_entry_words(text, station::entry_of(st, card, which)),
+        _ => NO_LINE,
     }
 }
 
 // Request 14: no payload.
-pub(crate) fn summary_call(payload: &[u8], st: Station, text: &mut Text) -> usize
+pub(crate) fn summary_call(card: u8, payload: &[u8], st: Station, text: &mut Text) -> usize
     ensures { λ n. ⌜ n ≤ 512 ⌝ }
 {
     if payload.len() != 0 {
-        return say_bad(text, 14);
+        return NO_LINE;
     }
-    say_summary(text, station::summary_of(st))
+    say_summary(text, station::summary_of(st, card))
 }

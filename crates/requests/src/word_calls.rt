@@ -1,5 +1,5 @@
 // Requests 4 and 5: the reader and the encoder.
-use crate::answers::say_bad;
+use crate::answers::NO_LINE;
 use crate::answers::say_read;
 use crate::line::Text;
 use crate::words_taken::write_kind;
@@ -31,11 +31,11 @@ pub(crate) fn read_call(payload: &[u8], text: &mut Text) -> usize
     ensures { λ n. ⌜ n ≤ 512 ⌝ }
 {
     if payload.len() == 0 {
-        return say_bad(text, 4);
+        return NO_LINE;
     }
     let asked = asked_by(payload[0]);
     match asked {
-        Asked::Unknown => say_bad(text, 4),
+        Asked::Unknown => NO_LINE,
         Asked::Known(k) => say_read(text, words::read_words(&payload[1..], k)),
     }
 }
@@ -45,11 +45,11 @@ pub(crate) fn write_call(payload: &[u8], text: &mut Text) -> usize
     ensures { λ n. ⌜ n ≤ 512 ⌝ }
 {
     if payload.len() < 3 {
-        return say_bad(text, 5);
+        return NO_LINE;
     }
     let asked = asked_by(payload[1]);
     match asked {
-        Asked::Unknown => say_bad(text, 5),
+        Asked::Unknown => NO_LINE,
         Asked::Known(k) => write_kind(k, payload, text),
     }
 }

@@ -1,7 +1,7 @@
 // Request 5, once its kind is known: the record of its words, in the paper's order. The fields are named
 // here, and not made from a list by another crate, so that the string written shows which word each of
 // them holds.
-use crate::answers::say_bad;
+use crate::answers::NO_LINE;
 use crate::answers::say_written;
 use crate::line::Text;
 use crate::numbers::four;
@@ -38,7 +38,7 @@ pub(crate) fn write_kind(k: Kind, payload: &[u8], text: &mut Text) -> usize
     ensures { λ n. ⌜ n ≤ 512 ⌝ }
 {
     if payload.len() - 3 != count_of(k) * 4 {
-        return say_bad(text, 5);
+        return NO_LINE;
     }
     let record = record_from(k, words_in(&payload[3..]));
     let mut space = [0u8; 255];

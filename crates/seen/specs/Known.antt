@@ -6,7 +6,7 @@ use mathlib.Core.List.{List, [], _∷_}
 use mathlib.Core.Path.{_≡_, refl}
 use lib.ListN.{getD}
 use Rattle.strings.specs.declared.Refusal.{Refusal}
-use Rattle.strings.specs.declared.Refusal.the-variants.{Channel, Shape, Damaged, Idle, Number, Early, Stale, OffBeat, Conflict, Range, Place, Room, Nothing, Slot}
+use Rattle.strings.specs.declared.Refusal.the-variants.{Channel, Shape, Damaged, Idle, Number, Early, Stale, OffBeat, Conflict, Range, Place, Room, Nothing, Slot, Owner, Card}
 use Rattle.strings.specs.declared.hamming.Damage.the-variants.{Unplaced, Even, Outside}
 use Rattle.strings.specs.Pick.{isOneOf}
 use Rattle.strings.specs.Number.{numberOf, paddingOf, misshapen, wordOf, flip, stringBytes}
@@ -63,9 +63,9 @@ pub record Known : Type 0 where
   pub outside : seenBy (Refused (Damaged Outside)) oneOutside ≡ seen 0 0 0
   pub idle : seenBy (Refused Idle) oneIdle ≡ seen 0 0 0
   -- "number 1..4", where "the listing's zeros treat each as 3" of 31 to 33
-  pub before-verdict : (q : Refusal) → comesBeforeVerdict q ≡ isOneOf (1 ∷ 2 ∷ 31 ∷ 32 ∷ 33 ∷ 4 ∷ []) (getD (refusalPaper q) 0 0)
+  pub before-verdict : (q : Refusal) → comesBeforeVerdict q ≡ isOneOf (16 ∷ 1 ∷ 15 ∷ 2 ∷ 31 ∷ 32 ∷ 33 ∷ 4 ∷ []) (getD (refusalPaper q) 0 0)
 
-by-number : (q : Refusal) → comesBeforeVerdict q ≡ isOneOf (1 ∷ 2 ∷ 31 ∷ 32 ∷ 33 ∷ 4 ∷ []) (getD (refusalPaper q) 0 0)
+by-number : (q : Refusal) → comesBeforeVerdict q ≡ isOneOf (16 ∷ 1 ∷ 15 ∷ 2 ∷ 31 ∷ 32 ∷ 33 ∷ 4 ∷ []) (getD (refusalPaper q) 0 0)
 by-number Channel = refl
 by-number Shape = refl
 by-number (Damaged Unplaced) = refl
@@ -82,6 +82,8 @@ by-number Place = refl
 by-number Room = refl
 by-number Nothing = refl
 by-number Slot = refl
+by-number Owner = refl
+by-number Card = refl
 
 pub known : Known
 unfolding soundTests numberOf paddingOf misshapen wordOf flip stringBytes position sumC sumAll syndrome sumsSet highest placed judge ruling mended sumsMade encode readRelative writeRelative inverse firstSymbol seenIn seenBy

@@ -6,7 +6,7 @@ use mathlib.Core.List.{List}
 use lib.Dec.{eqb}
 use Rattle.strings.specs.Pick.{pick}
 use Rattle.strings.specs.declared.Refusal.{Refusal}
-use Rattle.strings.specs.declared.Refusal.the-variants.{Channel, Shape, Damaged, Idle, Number, Early, Stale, OffBeat, Conflict, Range, Place, Room, Nothing, Slot}
+use Rattle.strings.specs.declared.Refusal.the-variants.{Channel, Shape, Damaged, Idle, Number, Early, Stale, OffBeat, Conflict, Range, Place, Room, Nothing, Slot, Owner, Card}
 use Rattle.strings.specs.declared.Verdict.{Verdict}
 use Rattle.strings.specs.declared.Verdict.the-variants.{Clean, Repaired}
 use Rattle.strings.specs.Numbers.{firstOf}
@@ -33,7 +33,7 @@ isHeard s = eqb (firstOf (hearTests s)) 0
 unfoldable pub seenIn : List ℕ → Seen
 seenIn s = pick (isHeard s) (seen (bitIn (verdictIn s)) (numberIn (wholeOf s)) 0) (seen 0 0 0)
 
--- 1 to 4, by cases; 31 to 33 stand in 3's position
+-- 1 to 4, by cases; 31 to 33 stand in 3's position, and 16 and 15 before 2 (request 10)
 abbrev pub comesBeforeVerdict : Refusal → Bool
 comesBeforeVerdict Channel = true
 comesBeforeVerdict Shape = true
@@ -49,6 +49,8 @@ comesBeforeVerdict Place = false
 comesBeforeVerdict Room = false
 comesBeforeVerdict Nothing = false
 comesBeforeVerdict Slot = false
+comesBeforeVerdict Owner = true
+comesBeforeVerdict Card = true
 
 -- of a string with this answer
 unfoldable pub seenBy : Answer → List ℕ → Seen

@@ -52,7 +52,8 @@ fn seen_after(why: Refusal, s: &[u8]) -> Seen
     see(s)
 }
 
-// Whether a refusal comes before the check has a verdict: 1 to 4, 31 to 33 among them.
+// Whether a refusal comes before the check has a verdict: 1 to 4, 31 to 33 among
+// them, and 15 and 16, which stand before 2.
 fn comes_before_verdict(why: Refusal) -> bool
     ensures { λ r. ⌜ r ≡ comesBeforeVerdict why ⌝ }
 {
@@ -71,6 +72,8 @@ fn comes_before_verdict(why: Refusal) -> bool
         Refusal::Room => false,
         Refusal::Nothing => false,
         Refusal::Slot => false,
+        Refusal::Owner => true,
+        Refusal::Card => true,
     }
 }
 

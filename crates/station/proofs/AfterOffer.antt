@@ -30,18 +30,18 @@ same-station st st′ rows book summary =
     ∙ ap (λ (z : Summary). record { rows = st′ .rows; book = st′ .book; summary = z }) summary
 
 -- a call that is not let in
-pub offer-shut : (st : Station) (c epoch : ℕ) (s : List ℕ) (why : Refusal) → Enters c (Shut why) → OffersTo st c epoch s (record { station = st; answer = Refused why })
+pub offer-shut : (st : Station) (card c epoch : ℕ) (s : List ℕ) (why : Refusal) → Enters card c (Shut why) → OffersTo st card c epoch s (record { station = st; answer = Refused why })
 unfolding stationAfter
-offer-shut st c epoch s why n =
-    record { answer = n .1 ∙ sym (shut-says c (offerTests (heldAt st c) epoch s) (toldIn st c epoch s) (n .0)); station = rw (n .0) }
+offer-shut st card c epoch s why n =
+    record { answer = n .1 ∙ sym (shut-says card c (offerTests (heldAt st c) epoch s) (toldIn st c epoch s) (n .0)); station = rw (n .0) }
 
 -- the row offered to and put back, the book that a newly stored string has brought its entries to, whether an entry of it changed, and the summary
-module _ (st : Station) (c epoch : ℕ) (s : List ℕ) (o : Offered) (b : Book) (changed : Bool) (kept : Summary) where
-  pub after-offer : isServed c ≡ true → Offers (rowAt st c) epoch s o
+module _ (st : Station) (card c epoch : ℕ) (s : List ℕ) (o : Offered) (b : Book) (changed : Bool) (kept : Summary) where
+  pub after-offer : isServed card c ≡ true → Offers (rowAt st c) epoch s o
       → b ≡ pick (isStored (o .answer)) (brought (st .book) (showsOf (frameOf (o .row)))) (st .book)
       → changed ≡ (isStored (o .answer) && changes (st .book) (showsOf (frameOf (o .row))))
       → kept ≡ corrected changed b (st .summary)
-      → OffersTo st c epoch s (record { station = record { rows = set (st .rows) c (o .row); book = b; summary = kept }; answer = o .answer })
+      → OffersTo st card c epoch s (record { station = record { rows = set (st .rows) c (o .row); book = b; summary = kept }; answer = o .answer })
   unfolding stationAfter
   after-offer f to book change summary =
       let i = offered-is (rowAt st c) epoch s o to in
@@ -53,11 +53,11 @@ module _ (st : Station) (c epoch : ℕ) (s : List ℕ) (o : Offered) (b : Book) 
       change ∙ ap₂ (λ (t : Bool) (x : Row). t && changes (st .book) (showsOf (frameOf x))) stored i
       in
       record {
-        answer = said-by (rowAt st c) epoch s o to ∙ sym (open-says c (offerTests (heldAt st c) epoch s) (toldIn st c epoch s) f);
+        answer = said-by (rowAt st c) epoch s o to ∙ sym (open-says card c (offerTests (heldAt st c) epoch s) (toldIn st c epoch s) f);
         station = rw f
             (same-station _ _ (ap (set (st .rows) c) i) joined (summary ∙ ap₂ (λ (t : Bool) (x : Book). corrected t x (st .summary)) so joined));
       }
 
 -- at the row where the call entered
-pub offer-open : (st : Station) (c i epoch : ℕ) (s : List ℕ) (r : Stepped) → Enters c (Open i) → (isServed i ≡ true → OffersTo st i epoch s r) → OffersTo st c epoch s r
-offer-open st c i epoch s r n f = entered (λ (k : ℕ). OffersTo st k epoch s r) n f
+pub offer-open : (st : Station) (card c i epoch : ℕ) (s : List ℕ) (r : Stepped) → Enters card c (Open i) → (isServed card i ≡ true → OffersTo st card i epoch s r) → OffersTo st card c epoch s r
+offer-open st card c i epoch s r n f = entered (λ (k : ℕ). OffersTo st card k epoch s r) card n f

@@ -16,15 +16,15 @@ use Rattle.station.specs.Station.{Enters, stationReset, Resets}
 use Rattle.station.proofs.Served.{open-says, entered}
 
 -- a call that is not let in
-pub reset-shut : (st : Station) (c : ℕ) (why : Refusal) → Enters c (Shut why) → Resets st c (record { station = st; answer = Refused why })
+pub reset-shut : (st : Station) (card c : ℕ) (why : Refusal) → Enters card c (Shut why) → Resets st card c (record { station = st; answer = Refused why })
 unfolding stationReset
-reset-shut st c why n = record { answer = n .1; station = rw (n .0) }
+reset-shut st card c why n = record { answer = n .1; station = rw (n .0) }
 
 -- the channel's row an empty one, and all else as it was
 abbrev pub emptiedAt : Station → ℕ → Row → Emptied
 emptiedAt st i row = record { station = record { rows = set (st .rows) i row; book = st .book; summary = st .summary }; answer = Done }
 
-pub reset-open : (st : Station) (c i : ℕ) (row : Row) → Enters c (Open i) → row ≡ emptyRow → Resets st c (emptiedAt st i row)
+pub reset-open : (st : Station) (card c i : ℕ) (row : Row) → Enters card c (Open i) → row ≡ emptyRow → Resets st card c (emptiedAt st i row)
 unfolding stationReset
-reset-open st c i row n e =
-    entered (λ (k : ℕ). Resets st k (emptiedAt st i row)) n (λ f. record { answer = sym (open-says i [] [] f); station = rw (f, e) })
+reset-open st card c i row n e =
+    entered (λ (k : ℕ). Resets st card k (emptiedAt st i row)) card n (λ f. record { answer = sym (open-says card i [] [] f); station = rw (f, e) })

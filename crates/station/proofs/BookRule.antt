@@ -31,7 +31,7 @@ use Rattle.station.specs.declared.Station.{Station}
 use Rattle.station.specs.declared.Stepped.{Stepped}
 use Rattle.station.specs.declared.Emptied.{Emptied}
 use Rattle.station.specs.Station.{freshStation, rowAt, isServed, bookAfter, OffersTo, Resets}
-use Rattle.station.specs.History.{Call, Offer, Reset, channelOf, itself, isLetIn, isOn, callsOn, Part, whole, earlier, pairs, ShownIn, Greatest, Runs, fresh, offering, resetting}
+use Rattle.station.specs.History.{Call, Offer, Reset, cardOf, channelOf, itself, isLetIn, isOn, callsOn, Part, whole, earlier, pairs, ShownIn, Greatest, Runs, fresh, offering, resetting}
 use Rattle.station.proofs.Served.{served-below}
 use Rattle.station.proofs.ChannelRuns.{in-step, on-both, on-own, calls-same, calls-other, after-none, after-some, reset-none, reset-some}
 use Rattle.station.proofs.Holding.{Dated, Holding, holding-same, InShows, Right, AllRight, brought-full, holding-brought}
@@ -127,6 +127,7 @@ module _ (call : Call) (cs : List Call) (k : ℕ) (u : Three) where
   shown-kept : ShownIn cs k u → ShownIn (call ∷ cs) k u
   shown-kept w =
       record {
+        card = w .card;
         channel = w .channel;
         served = w .served;
         moment = w .moment;
@@ -146,6 +147,7 @@ module _ (call : Call) (cs : List Call) (k : ℕ) (u : Three) where
       let c = channelOf call in
       let m = itself call ∷ callsOn c cs in
       record {
+        card = cardOf call;
         channel = c;
         served = n .served;
         moment = m;
@@ -160,7 +162,7 @@ module _ (call : Call) (cs : List Call) (k : ℕ) (u : Three) where
     where
       -- a moment before this call
       old : Part (w .moment) (callsOn (w .channel) cs) → ShownIn cs k u
-      old p = record { channel = w .channel; served = w .served; moment = w .moment; within = p; pair = w .pair; named = w .named; shows = w .shows }
+      old p = record { card = w .card; channel = w .channel; served = w .served; moment = w .moment; within = p; pair = w .pair; named = w .named; shows = w .shows }
 
       -- this moment
       new : isLetIn call ≡ true → channelOf call ≡ w .channel → w .moment ≡ itself call ∷ callsOn (w .channel) cs → Newly call cs k u
@@ -194,9 +196,9 @@ quiet-none : (call : Call) (cs : List Call) (k : ℕ) → isLetIn call ≡ false
 quiet-none call cs k e u n = absurd (true≢false (sym (n .served) ∙ e))
 
 -- nor does a reset
-quiet-reset : (c : ℕ) (cs : List Call) (k : ℕ) (u : Three) → Newly (Reset c) cs k u → ShownIn cs k u
+quiet-reset : (card c : ℕ) (cs : List Call) (k : ℕ) (u : Three) → Newly (Reset card c) cs k u → ShownIn cs k u
 unfolding heldAfter
-quiet-reset c cs k u n = let q = n .at .shows in let z : _≡_ {A = ℕ} 0 1 = cc in absurd (omega arith)
+quiet-reset card c cs k u n = let q = n .at .shows in let z : _≡_ {A = ℕ} 0 1 = cc in absurd (omega arith)
 
 -- nor one that is not newly stored: the frame is as it was
 frame-quiet : (f : Frame) (epoch : ℕ) (s : List ℕ) → storesIt f epoch s ≡ false → frameAfter f epoch s ≡ f
@@ -207,11 +209,12 @@ frame-quiet f epoch s = by (eqb (firstOf (offerTests f epoch s)) 0) (isHere f ep
     by true false e q = absurd (true≢false q)
     by false h e q = refl
 
-quiet-offer : (c epoch : ℕ) (s : List ℕ) (cs : List Call) (k : ℕ) → storesIt (heldAfter (callsOn c cs)) epoch s ≡ false
-    → (u : Three) → Newly (Offer c epoch s) cs k u → ShownIn cs k u
+quiet-offer : (card c epoch : ℕ) (s : List ℕ) (cs : List Call) (k : ℕ) → storesIt (heldAfter (callsOn c cs)) epoch s ≡ false
+    → (u : Three) → Newly (Offer card c epoch s) cs k u → ShownIn cs k u
 unfolding heldAfter
-quiet-offer c epoch s cs k e u n =
+quiet-offer card c epoch s cs k e u n =
     record {
+      card = card;
       channel = c;
       served = n .served;
       moment = callsOn c cs;
@@ -265,55 +268,55 @@ book-quiet call cs st next e q h =
     }
 
 -- an offer
-module _ (c epoch : ℕ) (s : List ℕ) (cs : List Call) (st : Station) (run : Runs cs st) (h : BookHolds cs st) (e : isServed c ≡ true) where
+module _ (card c epoch : ℕ) (s : List ℕ) (cs : List Call) (st : Station) (run : Runs cs st) (h : BookHolds cs st) (e : isServed card c ≡ true) where
   held : frameOf (rowAt st c) ≡ heldAfter (callsOn c cs)
-  held = held-is (callsOn c cs) (rowAt st c) (in-step cs st run .run c (served-below c e))
+  held = held-is (callsOn c cs) (rowAt st c) (in-step cs st run .run c (served-below card c e))
 
   held-next : frameOf (offeredRow (rowAt st c) epoch s) ≡ heldAfter (OfferIt epoch s ∷ callsOn c cs)
   unfolding heldAfter
   held-next =
-      frame-after (rowAt st c) epoch s (runs-long (callsOn c cs) (rowAt st c) (in-step cs st run .run c (served-below c e))) ∙ ap (λ (f : Frame). frameAfter f epoch s) held
+      frame-after (rowAt st c) epoch s (runs-long (callsOn c cs) (rowAt st c) (in-step cs st run .run c (served-below card c e))) ∙ ap (λ (f : Frame). frameAfter f epoch s) held
 
   -- all that its frame then shows is brought
-  stored-holds : (next : Station) → next .book ≡ brought (st .book) (showsOf (frameOf (offeredRow (rowAt st c) epoch s))) → BookHolds (Offer c epoch s ∷ cs) next
+  stored-holds : (next : Station) → next .book ≡ brought (st .book) (showsOf (frameOf (offeredRow (rowAt st c) epoch s))) → BookHolds (Offer card c epoch s ∷ cs) next
   stored-holds next q =
       let b : next .book ≡ brought (st .book) (showsOf (heldAfter (OfferIt epoch s ∷ callsOn c cs))) = q ∙ ap (λ (f : Frame). brought (st .book) (showsOf f)) held-next in
       record {
         full = subst Full (sym b) (brought-full (showsOf (heldAfter (OfferIt epoch s ∷ callsOn c cs))) (st .book) (h .full));
-        holds = λ k l m. subst (λ (x : Book). Holding (ShownIn (Offer c epoch s ∷ cs) k) (inSlot x k)) (sym b)
-            (holding-stored (Offer c epoch s) cs k (st .book) l m e (h .full) (h .holds k l m));
+        holds = λ k l m. subst (λ (x : Book). Holding (ShownIn (Offer card c epoch s ∷ cs) k) (inSlot x k)) (sym b)
+            (holding-stored (Offer card c epoch s) cs k (st .book) l m e (h .full) (h .holds k l m));
       }
 
   -- by whether the string was newly stored
   chosen : (next : Station) (t : Bool) → storesIt (frameOf (rowAt st c)) epoch s ≡ t
-      → next .book ≡ pick t (brought (st .book) (showsOf (frameOf (offeredRow (rowAt st c) epoch s)))) (st .book) → BookHolds (Offer c epoch s ∷ cs) next
+      → next .book ≡ pick t (brought (st .book) (showsOf (frameOf (offeredRow (rowAt st c) epoch s)))) (st .book) → BookHolds (Offer card c epoch s ∷ cs) next
   chosen next true w q = stored-holds next q
-  chosen next false w q = book-quiet (Offer c epoch s) cs st next q (λ k. quiet-offer c epoch s cs k (ap (λ (f : Frame). storesIt f epoch s) (sym held) ∙ w)) h
+  chosen next false w q = book-quiet (Offer card c epoch s) cs st next q (λ k. quiet-offer card c epoch s cs k (ap (λ (f : Frame). storesIt f epoch s) (sym held) ∙ w)) h
 
-  offer-holds : (next : Station) → next .book ≡ bookAfter (st .book) (rowAt st c) epoch s → BookHolds (Offer c epoch s ∷ cs) next
+  offer-holds : (next : Station) → next .book ≡ bookAfter (st .book) (rowAt st c) epoch s → BookHolds (Offer card c epoch s ∷ cs) next
   offer-holds next q = chosen next (storesIt (frameOf (rowAt st c)) epoch s) refl q
 
-step-book : (c epoch : ℕ) (s : List ℕ) (cs : List Call) (st : Station) (r : Stepped) → Runs cs st → BookHolds cs st → OffersTo st c epoch s r
-    → BookHolds (Offer c epoch s ∷ cs) (r .station)
-step-book c epoch s cs st r run h o = by (isServed c) refl
+step-book : (card c epoch : ℕ) (s : List ℕ) (cs : List Call) (st : Station) (r : Stepped) → Runs cs st → BookHolds cs st → OffersTo st card c epoch s r
+    → BookHolds (Offer card c epoch s ∷ cs) (r .station)
+step-book card c epoch s cs st r run h o = by (isServed card c) refl
   where
-    by : (t : Bool) → isServed c ≡ t → BookHolds (Offer c epoch s ∷ cs) (r .station)
+    by : (t : Bool) → isServed card c ≡ t → BookHolds (Offer card c epoch s ∷ cs) (r .station)
     by false e =
-        book-quiet (Offer c epoch s) cs st (r .station) (ap (λ (x : Station). x .book) (o .station ∙ after-none st c epoch s e))
-        (λ k. quiet-none (Offer c epoch s) cs k e) h
-    by true e = offer-holds c epoch s cs st run h e (r .station) (ap (λ (x : Station). x .book) (o .station ∙ after-some st c epoch s e))
+        book-quiet (Offer card c epoch s) cs st (r .station) (ap (λ (x : Station). x .book) (o .station ∙ after-none st card c epoch s e))
+        (λ k. quiet-none (Offer card c epoch s) cs k e) h
+    by true e = offer-holds card c epoch s cs st run h e (r .station) (ap (λ (x : Station). x .book) (o .station ∙ after-some st card c epoch s e))
 
-step-empty : (c : ℕ) (cs : List Call) (st : Station) (r : Emptied) → BookHolds cs st → Resets st c r → BookHolds (Reset c ∷ cs) (r .station)
-step-empty c cs st r h o = by (isServed c) refl
+step-empty : (card c : ℕ) (cs : List Call) (st : Station) (r : Emptied) → BookHolds cs st → Resets st card c r → BookHolds (Reset card c ∷ cs) (r .station)
+step-empty card c cs st r h o = by (isServed card c) refl
   where
-    by : (t : Bool) → isServed c ≡ t → BookHolds (Reset c ∷ cs) (r .station)
-    by false e = book-quiet (Reset c) cs st (r .station) (ap (λ (x : Station). x .book) (o .station ∙ reset-none st c e)) (λ k. quiet-reset c cs k) h
-    by true e = book-quiet (Reset c) cs st (r .station) (ap (λ (x : Station). x .book) (o .station ∙ reset-some st c e)) (λ k. quiet-reset c cs k) h
+    by : (t : Bool) → isServed card c ≡ t → BookHolds (Reset card c ∷ cs) (r .station)
+    by false e = book-quiet (Reset card c) cs st (r .station) (ap (λ (x : Station). x .book) (o .station ∙ reset-none st card c e)) (λ k. quiet-reset card c cs k) h
+    by true e = book-quiet (Reset card c) cs st (r .station) (ap (λ (x : Station). x .book) (o .station ∙ reset-some st card c e)) (λ k. quiet-reset card c cs k) h
 
 book-holds : (cs : List Call) (st : Station) → Runs cs st → BookHolds cs st
 book-holds cs st fresh = fresh-holds
-book-holds cs st (offering c epoch s ds before r run o) = step-book c epoch s ds before r run (book-holds ds before run) o
-book-holds cs st (resetting c ds before r run o) = step-empty c ds before r (book-holds ds before run) o
+book-holds cs st (offering card c epoch s ds before r run o) = step-book card c epoch s ds before r run (book-holds ds before run) o
+book-holds cs st (resetting card c ds before r run o) = step-empty card c ds before r (book-holds ds before run) o
 
 -- A BOOK HAS ALL ITS SLOTS, and a slot of it holds the greatest entry that was shown, or none where none was
 pub slot-holds : (cs : List Call) (st : Station) → Runs cs st → (k : ℕ) → 1 ≤ k → k ≤ slots → Holding (ShownIn cs k) (inSlot (st .book) k)

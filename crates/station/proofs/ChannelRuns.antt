@@ -34,13 +34,13 @@ module _ (rows : List Row) (long : length rows ≡ channels) (c k : ℕ) (row : 
   put-other n = getD-set-other rows c k row noRow n
 
 -- ---- the station after a call: as it was, or with the channel's row put back
-module _ (st : Station) (c : ℕ) where
-  pub after-none : (epoch : ℕ) (s : List ℕ) → isServed c ≡ false → stationAfter st c epoch s ≡ st
+module _ (st : Station) (card c : ℕ) where
+  pub after-none : (epoch : ℕ) (s : List ℕ) → isServed card c ≡ false → stationAfter st card c epoch s ≡ st
   unfolding stationAfter
   after-none epoch s e = rw e
 
-  pub after-some : (epoch : ℕ) (s : List ℕ) → isServed c ≡ true
-      → stationAfter st c epoch s ≡ record {
+  pub after-some : (epoch : ℕ) (s : List ℕ) → isServed card c ≡ true
+      → stationAfter st card c epoch s ≡ record {
         rows = set (st .rows) c (offeredRow (rowAt st c) epoch s);
         book = bookAfter (st .book) (rowAt st c) epoch s;
         summary = summaryAfter (st .summary) (st .book) (rowAt st c) epoch s;
@@ -48,13 +48,40 @@ module _ (st : Station) (c : ℕ) where
   unfolding stationAfter
   after-some epoch s e = rw e
 
-  pub reset-none : isServed c ≡ false → stationReset st c ≡ st
+  pub reset-none : isServed card c ≡ false → stationReset st card c ≡ st
   unfolding stationReset
   reset-none e = rw e
 
-  pub reset-some : isServed c ≡ true → stationReset st c ≡ record { rows = set (st .rows) c emptyRow; book = st .book; summary = st .summary }
+  pub reset-some : isServed card c ≡ true → stationReset st card c ≡ record { rows = set (st .rows) c emptyRow; book = st .book; summary = st .summary }
   unfolding stationReset
   reset-some e = rw e
+
+-- the row that is theirs
+module _ (st : Station) (card c : ℕ) (long : length (st .rows) ≡ channels) (e : isServed card c ≡ true) where
+  pub after-own : (epoch : ℕ) (s : List ℕ) → rowAt (stationAfter st card c epoch s) c ≡ offeredRow (rowAt st c) epoch s
+  after-own epoch s =
+      ap (λ (x : Station). rowAt x c) (after-some st card c epoch s e)
+      ∙ getD-set-same (st .rows) c (offeredRow (rowAt st c) epoch s) noRow (omega (arith, served-below card c e, long))
+
+  pub reset-own : rowAt (stationReset st card c) c ≡ emptyRow
+  reset-own = ap (λ (x : Station). rowAt x c) (reset-some st card c e) ∙ getD-set-same (st .rows) c emptyRow noRow (omega (arith, served-below card c e, long))
+
+-- and one that is not: of another channel, or of the same where the call is not let in
+module _ (st : Station) (card c k : ℕ) (apart : isServed card c ≡ true → k ≡ c → ⊥) where
+  pub after-apart : (epoch : ℕ) (s : List ℕ) → rowAt (stationAfter st card c epoch s) k ≡ rowAt st k
+  after-apart epoch s = by (isServed card c) refl
+    where
+      by : (t : Bool) → isServed card c ≡ t → rowAt (stationAfter st card c epoch s) k ≡ rowAt st k
+      by false e = ap (λ (x : Station). rowAt x k) (after-none st card c epoch s e)
+      by true e =
+          ap (λ (x : Station). rowAt x k) (after-some st card c epoch s e) ∙ getD-set-other (st .rows) c k (offeredRow (rowAt st c) epoch s) noRow (apart e)
+
+  pub reset-apart : rowAt (stationReset st card c) k ≡ rowAt st k
+  reset-apart = by (isServed card c) refl
+    where
+      by : (t : Bool) → isServed card c ≡ t → rowAt (stationReset st card c) k ≡ rowAt st k
+      by false e = ap (λ (x : Station). rowAt x k) (reset-none st card c e)
+      by true e = ap (λ (x : Station). rowAt x k) (reset-some st card c e) ∙ getD-set-other (st .rows) c k emptyRow noRow (apart e)
 
 -- ---- a call on a channel is let in and has its label
 module _ (call : Call) (c : ℕ) where
@@ -119,15 +146,15 @@ on-one call cs st row book summary e there i here =
         (subst (ChannelRuns (callsOn c cs)) (sym (put-other (st .rows) (i .long) (channelOf call) c row there (apart c q))) (i .run c h))
 
 -- an offer's answer is its own row's
-pub own-answer : (st : Station) (c epoch : ℕ) (s : List ℕ) (r : Stepped) → isServed c ≡ true → OffersTo st c epoch s r
+pub own-answer : (st : Station) (card c epoch : ℕ) (s : List ℕ) (r : Stepped) → isServed card c ≡ true → OffersTo st card c epoch s r
     → answerPaper (r .answer) ≡ saidTo (heldAt st c) epoch s
-own-answer st c epoch s r e o = o .answer ∙ open-says c (offerTests (heldAt st c) epoch s) (toldIn st c epoch s) e
+own-answer st card c epoch s r e o = o .answer ∙ open-says card c (offerTests (heldAt st c) epoch s) (toldIn st c epoch s) e
 
 -- what a station's offer says of its row's
-pub row-offers : (st : Station) (c epoch : ℕ) (s : List ℕ) (r : Stepped) → isServed c ≡ true → OffersTo st c epoch s r
+pub row-offers : (st : Station) (card c epoch : ℕ) (s : List ℕ) (r : Stepped) → isServed card c ≡ true → OffersTo st card c epoch s r
     → Offers (rowAt st c) epoch s (record { row = offeredRow (rowAt st c) epoch s; answer = r .answer })
 unfolding Offers
-row-offers st c epoch s r e o = record { answer = own-answer st c epoch s r e o; left = refl }
+row-offers st card c epoch s r e o = record { answer = own-answer st card c epoch s r e o; left = refl }
 
 -- a fresh station
 fresh-long : length (freshStation .rows) ≡ channels
@@ -143,29 +170,29 @@ unfolding callsOn
 step-fresh = record { long = fresh-long; run = λ c e. subst (ChannelRuns []) (sym (fresh-at c e)) fresh-row }
 
 -- an offer and a reset
-step-offer : (c epoch : ℕ) (s : List ℕ) (cs : List Call) (st : Station) (r : Stepped) → InStep cs st → OffersTo st c epoch s r
-    → InStep (Offer c epoch s ∷ cs) (r .station)
-step-offer c epoch s cs st r i o = by (isServed c) refl
+step-offer : (card c epoch : ℕ) (s : List ℕ) (cs : List Call) (st : Station) (r : Stepped) → InStep cs st → OffersTo st card c epoch s r
+    → InStep (Offer card c epoch s ∷ cs) (r .station)
+step-offer card c epoch s cs st r i o = by (isServed card c) refl
   where
-    by : (t : Bool) → isServed c ≡ t → InStep (Offer c epoch s ∷ cs) (r .station)
-    by false e = subst (InStep (Offer c epoch s ∷ cs)) (sym (o .station ∙ after-none st c epoch s e)) (on-none (Offer c epoch s) cs st e i)
+    by : (t : Bool) → isServed card c ≡ t → InStep (Offer card c epoch s ∷ cs) (r .station)
+    by false e = subst (InStep (Offer card c epoch s ∷ cs)) (sym (o .station ∙ after-none st card c epoch s e)) (on-none (Offer card c epoch s) cs st e i)
     by true e =
-        subst (InStep (Offer c epoch s ∷ cs)) (sym (o .station ∙ after-some st c epoch s e))
-        (on-one (Offer c epoch s) cs st (offeredRow (rowAt st c) epoch s) (bookAfter (st .book) (rowAt st c) epoch s)
-        (summaryAfter (st .summary) (st .book) (rowAt st c) epoch s) e (served-below c e) i
-        (offering-it epoch s (callsOn c cs) (rowAt st c) (record { row = offeredRow (rowAt st c) epoch s; answer = r .answer }) (i .run c (served-below c e)) (row-offers st c epoch s r e o)))
+        subst (InStep (Offer card c epoch s ∷ cs)) (sym (o .station ∙ after-some st card c epoch s e))
+        (on-one (Offer card c epoch s) cs st (offeredRow (rowAt st c) epoch s) (bookAfter (st .book) (rowAt st c) epoch s)
+        (summaryAfter (st .summary) (st .book) (rowAt st c) epoch s) e (served-below card c e) i
+        (offering-it epoch s (callsOn c cs) (rowAt st c) (record { row = offeredRow (rowAt st c) epoch s; answer = r .answer }) (i .run c (served-below card c e)) (row-offers st card c epoch s r e o)))
 
-step-reset : (c : ℕ) (cs : List Call) (st : Station) (r : Emptied) → InStep cs st → Resets st c r → InStep (Reset c ∷ cs) (r .station)
-step-reset c cs st r i o = by (isServed c) refl
+step-reset : (card c : ℕ) (cs : List Call) (st : Station) (r : Emptied) → InStep cs st → Resets st card c r → InStep (Reset card c ∷ cs) (r .station)
+step-reset card c cs st r i o = by (isServed card c) refl
   where
-    by : (t : Bool) → isServed c ≡ t → InStep (Reset c ∷ cs) (r .station)
-    by false e = subst (InStep (Reset c ∷ cs)) (sym (o .station ∙ reset-none st c e)) (on-none (Reset c) cs st e i)
+    by : (t : Bool) → isServed card c ≡ t → InStep (Reset card c ∷ cs) (r .station)
+    by false e = subst (InStep (Reset card c ∷ cs)) (sym (o .station ∙ reset-none st card c e)) (on-none (Reset card c) cs st e i)
     by true e =
-        subst (InStep (Reset c ∷ cs)) (sym (o .station ∙ reset-some st c e))
-        (on-one (Reset c) cs st emptyRow (st .book) (st .summary) e (served-below c e) i (resetting-it (callsOn c cs) (rowAt st c) (i .run c (served-below c e))))
+        subst (InStep (Reset card c ∷ cs)) (sym (o .station ∙ reset-some st card c e))
+        (on-one (Reset card c) cs st emptyRow (st .book) (st .summary) e (served-below card c e) i (resetting-it (callsOn c cs) (rowAt st c) (i .run c (served-below card c e))))
 
 -- EACH ROW IS A CHANNEL'S RUN
 pub in-step : (cs : List Call) (st : Station) → Runs cs st → InStep cs st
 in-step cs st fresh = step-fresh
-in-step cs st (offering c epoch s ds before r run o) = step-offer c epoch s ds before r (in-step ds before run) o
-in-step cs st (resetting c ds before r run o) = step-reset c ds before r (in-step ds before run) o
+in-step cs st (offering card c epoch s ds before r run o) = step-offer card c epoch s ds before r (in-step ds before run) o
+in-step cs st (resetting card c ds before r run o) = step-reset card c ds before r (in-step ds before run) o

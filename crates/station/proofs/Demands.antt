@@ -45,7 +45,7 @@ use Rattle.station.specs.History.{Call, callsOn, Runs, fresh, offering, 
 use Rattle.station.specs.declared.Health.the-variants.{Unknown, Usable, NotUsable}
 use Rattle.station.specs.Queries.{keptAt, allCounts, isSlot, isEmpty, topOfB, satelliteOf, lOf, modelOf, lCounted, statusOf, judged, isKnown, statusIn, healthBy}
 use Rattle.station.specs.Said.{callsOf}
-use Rattle.station.specs.Demand1.{WellMade, RefusalLeaves, ChannelLeaves}
+use Rattle.station.specs.Demand1.{WellMade, RefusalLeaves, ShutLeaves}
 use Rattle.station.specs.Demand2.{Counted}
 use Rattle.station.specs.Demand3.{Answered, SameShown, SameBooks, BookRule}
 use Rattle.station.specs.Health.{KnownIn, UsableIn, HealthIn, DifferInBit65, ReservedBit, healthBefore, UsedUnfit, RulesDiffer}
@@ -63,25 +63,26 @@ use Rattle.station.proofs.Summary.{shown-filled, held, summary-rule}
 use Rattle.station.proofs.WellMade.{runs-made}
 use Rattle.station.proofs.Exchange.{runs-of, every-run, exchanged, reordered}
 use Rattle.station.proofs.Tallied.{tallied}
+use Rattle.station.proofs.Isolation.{others-leave, answered-alike, isolated}
 use Rattle.station.proofs.Relock.{relocked}
 
 -- ---- DEMAND 1
-pub channel-leaves : (st : Station) (c : ℕ) → isServed c ≡ false → ChannelLeaves st c
-channel-leaves st c e =
-    record { offers = λ epoch s r o. o .station ∙ after-none st c epoch s e; resets = λ r o. o .station ∙ reset-none st c e }
+pub shut-leaves : (st : Station) (card c : ℕ) → isServed card c ≡ false → ShutLeaves st card c
+shut-leaves st card c e =
+    record { offers = λ epoch s r o. o .station ∙ after-none st card c epoch s e; resets = λ r o. o .station ∙ reset-none st card c e }
 
-pub refusal-leaves : (st : Station) (c epoch : ℕ) (s : List ℕ) (r : Stepped) → WellMade st → isServed c ≡ true
-    → OffersTo st c epoch s r → isTaken (r .answer) ≡ false → RefusalLeaves st c (numberSaid (r .answer)) (r .station)
-refusal-leaves st c epoch s r made e o n =
+pub refusal-leaves : (st : Station) (card c epoch : ℕ) (s : List ℕ) (r : Stepped) → WellMade st → isServed card c ≡ true
+    → OffersTo st card c epoch s r → isTaken (r .answer) ≡ false → RefusalLeaves st c (numberSaid (r .answer)) (r .station)
+refusal-leaves st card c epoch s r made e o n =
     let row = rowAt st c in
     let next = offeredRow row epoch s in
-    let p = row-offers st c epoch s r e o in
+    let p = row-offers st card c epoch s r e o in
     let q : storesIt (frameOf row) epoch s ≡ false = ap (λ (t : Bool). t && not (isHere (frameOf row) epoch (wholeOf s))) (sym (taken-exactly row epoch s (record { row = next; answer = r .answer }) p) ∙ n) in
-    subst (RefusalLeaves st c (numberSaid (r .answer))) (sym (o .station ∙ after-some st c epoch s e)) (record {
+    subst (RefusalLeaves st c (numberSaid (r .answer))) (sym (o .station ∙ after-some st card c epoch s e)) (record {
       book = ap (λ (t : Bool). pick t (brought (st .book) (showsOf (frameOf next))) (st .book)) q;
       summary = ap (λ (t : Bool). corrected (t && changes (st .book) (showsOf (frameOf next))) (bookAfter (st .book) row epoch s) (st .summary)) q;
       others = λ k d. getD-set-other (st .rows) c k next noRow d;
-      own = subst (OnlyCounted (numberSaid (r .answer)) row) (sym (getD-set-same (st .rows) c next noRow (omega (arith, served-below c e, made .rows))))
+      own = subst (OnlyCounted (numberSaid (r .answer)) row) (sym (getD-set-same (st .rows) c next noRow (omega (arith, served-below card c e, made .rows))))
           (refused-only row epoch s (record { row = next; answer = r .answer }) p n);
     })
 
@@ -90,9 +91,9 @@ pub answered : (cs : List Call) (st : Station) → Runs cs st → Answered cs st
 answered cs st run = record { offers = offer-said cs st run; resets = reset-said cs st }
 
 -- ---- DEMAND 2
-pub counted : (cs : List Call) (st : Station) → Runs cs st → (c : ℕ) → isServed c ≡ true → Counted cs st c
-counted cs st run c e =
-    let i = in-step cs st run .run c (served-below c e) in
+pub counted : (cs : List Call) (st : Station) → Runs cs st → (card c : ℕ) → isServed card c ≡ true → Counted cs st c
+counted cs st run card c e =
+    let i = in-step cs st run .run c (served-below card c e) in
     let t = tallies-are (callsOn c cs) (rowAt st c) i in
     record {
       frame = held-is (callsOn c cs) (rowAt st c) i;
@@ -106,20 +107,20 @@ counted cs st run c e =
     }
 
 -- of every station
-pub taken-counts : (st : Station) (c epoch : ℕ) (s : List ℕ) (r : Stepped) → WellMade st → isServed c ≡ true → OffersTo st c epoch s r
+pub taken-counts : (st : Station) (card c epoch : ℕ) (s : List ℕ) (r : Stepped) → WellMade st → isServed card c ≡ true → OffersTo st card c epoch s r
     → isTaken (r .answer) ≡ true → TakenCounted (r .answer) (rowAt st c .tallies) (rowAt (r .station) c .tallies)
-taken-counts st c epoch s r made e o n =
+taken-counts st card c epoch s r made e o n =
     let row = rowAt st c in
     let next = offeredRow row epoch s in
     subst (λ (x : Row). TakenCounted (r .answer) (row .tallies) (x .tallies))
-    (sym (ap (λ (x : Station). rowAt x c) (o .station ∙ after-some st c epoch s e) ∙ getD-set-same (st .rows) c next noRow (omega (arith, served-below c e, made .rows))))
-    (taken-counted row epoch s (record { row = next; answer = r .answer }) (row-offers st c epoch s r e o) n)
+    (sym (ap (λ (x : Station). rowAt x c) (o .station ∙ after-some st card c epoch s e) ∙ getD-set-same (st .rows) c next noRow (omega (arith, served-below card c e, made .rows))))
+    (taken-counted row epoch s (record { row = next; answer = r .answer }) (row-offers st card c epoch s r e o) n)
 
-pub reset-counts : (st : Station) (c : ℕ) (r : Emptied) → WellMade st → isServed c ≡ true → Resets st c r → allCounts (rowAt (r .station) c .tallies) ≡ replicate 14 0
+pub reset-counts : (st : Station) (card c : ℕ) (r : Emptied) → WellMade st → isServed card c ≡ true → Resets st card c r → allCounts (rowAt (r .station) c .tallies) ≡ replicate 14 0
 unfolding emptyRow
-reset-counts st c r made e o =
-    ap (λ (x : Station). allCounts (rowAt x c .tallies)) (o .station ∙ reset-some st c e)
-    ∙ ap (λ (x : Row). allCounts (x .tallies)) (getD-set-same (st .rows) c emptyRow noRow (omega (arith, served-below c e, made .rows)))
+reset-counts st card c r made e o =
+    ap (λ (x : Station). allCounts (rowAt x c .tallies)) (o .station ∙ reset-some st card c e)
+    ∙ ap (λ (x : Row). allCounts (x .tallies)) (getD-set-same (st .rows) c emptyRow noRow (omega (arith, served-below card c e, made .rows)))
 
 -- ---- DEMAND 3
 pub two-stations : (cs ds : List Call) → SameShown cs ds → SameBooks cs ds
@@ -173,9 +174,9 @@ not-usable b l c = by (eqb b 0 && (eqb l 0 && eqb c 1))
 abbrev judgement : Immediate → Book → Health
 judgement i b = judged (topOfB i) (lCounted (modelOf i) (lOf i)) (statusIn i b)
 
-module _ (cs : List Call) (st : Station) (run : Runs cs st) (c : ℕ) (e : isServed c ≡ true) where
+module _ (cs : List Call) (st : Station) (run : Runs cs st) (card c : ℕ) (e : isServed card c ≡ true) where
   kept-is : recordIn (keptAt st c) ≡ recordAfter (callsOn c cs)
-  kept-is = record-is (callsOn c cs) (rowAt st c) (in-step cs st run .run c (served-below c e))
+  kept-is = record-is (callsOn c cs) (rowAt st c) (in-step cs st run .run c (served-below card c e))
 
   -- a record, and an entry for its n, in the station: so the calls give them
   known-there : hasRecord (keptAt st c) ≡ true → isSlot (satelliteOf (keptAt st c)) ≡ true → isEmpty (st .book) (satelliteOf (keptAt st c)) ≡ false → KnownIn cs c
@@ -344,8 +345,8 @@ rules-differ i b = record { there = not-usable-now i b; elsewhere = as-before i 
 pub runs-is : (cs : List Call) (st : Station) → Runs cs st → st ≡ stationOf cs
 unfolding stationOf
 runs-is cs st fresh = refl
-runs-is cs st (offering c epoch s ds before r run o) = o .station ∙ ap (λ (x : Station). stationAfter x c epoch s) (runs-is ds before run)
-runs-is cs st (resetting c ds before r run o) = o .station ∙ ap (λ (x : Station). stationReset x c) (runs-is ds before run)
+runs-is cs st (offering card c epoch s ds before r run o) = o .station ∙ ap (λ (x : Station). stationAfter x card c epoch s) (runs-is ds before run)
+runs-is cs st (resetting card c ds before r run o) = o .station ∙ ap (λ (x : Station). stationReset x card c) (runs-is ds before run)
 
 -- ---- THE DEMANDS
 pub demands : AllDemands
@@ -358,7 +359,7 @@ demands =
       string-numbers = string-numbers;
       damaged-exactly = damaged-exactly;
       refused = refusal-leaves;
-      no-channel = channel-leaves;
+      shut-out = shut-leaves;
       no-output-byte = no-output-byte;
       checking = checking;
       checked-again = again;
@@ -370,7 +371,7 @@ demands =
       by-name = by-name;
       ranges = ranges;
       round-trips = round-trips;
-      tallies = λ all st run c e. tallied all st run c (counted (callsOf all) st (runs-of all st run) c e);
+      tallies = λ all st run card c e. tallied all st run c (counted (callsOf all) st (runs-of all st run) card c e);
       counts = counted;
       taken-counts = taken-counts;
       reset-counts = reset-counts;
@@ -385,6 +386,9 @@ demands =
       two-stations = two-stations;
       book = book-rule;
       summary = summary-rule;
+      others-leave = others-leave;
+      answered-alike = λ card st st′ w w′ agree. answered-alike card st st′ agree (w .rows) (w′ .rows);
+      isolated = isolated;
       every-beat = λ h phase. let w = every-phase h phase in (w .0, (w .1, w .2));
       relock = relocked;
       health = health-in;

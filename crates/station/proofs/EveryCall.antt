@@ -42,7 +42,6 @@ use Rattle.words.proofs.RoundTrips.{read-once, read-numbers, write-once, write-
 use Rattle.words.specs.Immediate.{immediateOf}
 use Rattle.book.specs.Entry.{meaning}
 use Rattle.book.specs.Book.{inSlot}
-use Rattle.summary.specs.declared.Summary.{Summary}
 use Rattle.station.specs.declared.Station.{Station}
 use Rattle.station.specs.declared.Stepped.{Stepped}
 use Rattle.station.specs.declared.Emptied.{Emptied}
@@ -52,14 +51,16 @@ use Rattle.station.specs.declared.EntryFound.{EntryFound}
 use Rattle.station.specs.declared.EntryFound.the-variants.{Found as FoundEntry, Refused as NoEntry}
 use Rattle.station.specs.declared.TalliesFound.{TalliesFound}
 use Rattle.station.specs.declared.TalliesFound.the-variants.{Found as FoundTallies, Refused as NoTallies}
+use Rattle.station.specs.declared.SummaryFound.{SummaryFound}
+use Rattle.station.specs.declared.SummaryFound.the-variants.{Found as FoundSummary, Refused as NoSummary}
 use Rattle.station.specs.declared.HealthFound.{HealthFound}
 use Rattle.station.specs.declared.HealthFound.the-variants.{Found as FoundHealth, Refused as NoHealth}
-use Rattle.station.specs.Station.{rowAt, gateTests, stationAfter, OffersTo, stationReset, Resets}
-use Rattle.station.specs.Queries.{keptAt, recordTests, FindsRecord, entryTests, threeNumbers, FindsEntry, allCounts, FindsTallies, FindsSummary, healthNumber, healthBy, FindsHealth}
+use Rattle.station.specs.Station.{rowAt, cardTest, gateTests, stationAfter, OffersTo, stationReset, Resets}
+use Rattle.station.specs.Queries.{keptAt, recordTests, FindsRecord, entryTests, threeNumbers, FindsEntry, allCounts, FindsTallies, summaryNumbers, FindsSummary, healthNumber, healthBy, FindsHealth}
 use Rattle.station.specs.Demand1.{OneAnswer, StationAnswers, StringsAnswer, StationNumbers, StringNumbers, NoOutputByte}
 use Rattle.station.proofs.Found.{one-record, no-record, one-entry, no-entry}
 use Rattle.station.proofs.OnceOnly.{offers-to-once, resets-once, offers-to-exactly, resets-exactly}
-use Rattle.station.proofs.QueriesOnce.{records-once, records-exactly, entries-once, entries-exactly, tallies-once, tallies-exactly, health-once, health-exactly}
+use Rattle.station.proofs.QueriesOnce.{records-once, records-exactly, entries-once, entries-exactly, tallies-once, tallies-exactly, summaries-once, summaries-exactly, health-once, health-exactly}
 use Rattle.station.proofs.EveryHistory.{some-answer, offer-answers, reset-answer, reset-answers}
 use Rattle.station.proofs.Refusals.{Fitting, settles-first, settles-then, settles, taken-says, untouched}
 
@@ -69,59 +70,65 @@ one A Fits once r f = record { answer = r; fits = f; only = λ q g. once q r g f
 
 -- ---- the calls on a station
 module _ (st : Station) where
-  offer-one : (c epoch : ℕ) (s : List ℕ) → OneAnswer Stepped (OffersTo st c epoch s)
-  offer-one c epoch s =
-      one Stepped (OffersTo st c epoch s) (offers-to-once st c epoch s) (record { station = stationAfter st c epoch s; answer = some-answer st c epoch s .answer })
-      (offer-answers st c epoch s)
+  offer-one : (card c epoch : ℕ) (s : List ℕ) → OneAnswer Stepped (OffersTo st card c epoch s)
+  offer-one card c epoch s =
+      one Stepped (OffersTo st card c epoch s) (offers-to-once st card c epoch s) (record { station = stationAfter st card c epoch s; answer = some-answer st card c epoch s .answer })
+      (offer-answers st card c epoch s)
 
-  reset-one : (c : ℕ) → OneAnswer Emptied (Resets st c)
-  reset-one c = one Emptied (Resets st c) (resets-once st c) (record { station = stationReset st c; answer = reset-answer c }) (reset-answers st c)
+  reset-one : (card c : ℕ) → OneAnswer Emptied (Resets st card c)
+  reset-one card c = one Emptied (Resets st card c) (resets-once st card c) (record { station = stationReset st card c; answer = reset-answer card c }) (reset-answers st card c)
 
-  record-one : (c : ℕ) → OneAnswer RecordFound (FindsRecord st c)
-  record-one c =
-      let ts = recordTests st c in
+  record-one : (card c : ℕ) → OneAnswer RecordFound (FindsRecord st card c)
+  record-one card c =
+      let ts = recordTests st card c in
       ⊎-elim
       (λ (z : firstOf ts ≡ 0).
-      one RecordFound (FindsRecord st c) (records-once st c) (FoundRecord (immediateOf (keptAt st c .strings)))
+      one RecordFound (FindsRecord st card c) (records-once st card c) (FoundRecord (immediateOf (keptAt st c .strings)))
       (record { answer = taken-says ts [] z; words = λ w q. sym (one-record q) }))
       (λ (f : Fitting ts).
-      one RecordFound (FindsRecord st c) (records-once st c) (NoRecord (f .refusal)) (record { answer = f .says []; words = λ w q. no-record q }))
+      one RecordFound (FindsRecord st card c) (records-once st card c) (NoRecord (f .refusal)) (record { answer = f .says []; words = λ w q. no-record q }))
       (settles ts tt)
 
-  entry-one : (slot : ℕ) → OneAnswer EntryFound (FindsEntry st slot)
-  entry-one slot =
-      let ts = entryTests st slot in
+  entry-one : (card slot : ℕ) → OneAnswer EntryFound (FindsEntry st card slot)
+  entry-one card slot =
+      let ts = entryTests st card slot in
       let e = inSlot (st .book) slot in
       ⊎-elim
       (λ (z : firstOf ts ≡ 0).
-      one EntryFound (FindsEntry st slot) (entries-once st slot) (FoundEntry e) (record { answer = taken-says ts (threeNumbers (meaning e)) z; entry = λ d q. sym (one-entry q) }))
+      one EntryFound (FindsEntry st card slot) (entries-once st card slot) (FoundEntry e) (record { answer = taken-says ts (threeNumbers (meaning e)) z; entry = λ d q. sym (one-entry q) }))
       (λ (f : Fitting ts).
-      one EntryFound (FindsEntry st slot) (entries-once st slot) (NoEntry (f .refusal))
+      one EntryFound (FindsEntry st card slot) (entries-once st card slot) (NoEntry (f .refusal))
       (record { answer = f .says (threeNumbers (meaning e)); entry = λ d q. no-entry q }))
       (settles ts tt)
 
-  tallies-one : (c : ℕ) → OneAnswer TalliesFound (FindsTallies st c)
+  tallies-one : (card c : ℕ) → OneAnswer TalliesFound (FindsTallies st card c)
   unfolding FindsTallies
-  tallies-one c =
-      let ts = gateTests c in
+  tallies-one card c =
+      let ts = gateTests card c in
       let t = rowAt st c .tallies in
       ⊎-elim
-      (λ (z : firstOf ts ≡ 0). one TalliesFound (FindsTallies st c) (tallies-once st c) (FoundTallies t) (taken-says ts (allCounts t) z))
-      (λ (f : Fitting ts). one TalliesFound (FindsTallies st c) (tallies-once st c) (NoTallies (f .refusal)) (f .says (allCounts t)))
+      (λ (z : firstOf ts ≡ 0). one TalliesFound (FindsTallies st card c) (tallies-once st card c) (FoundTallies t) (taken-says ts (allCounts t) z))
+      (λ (f : Fitting ts). one TalliesFound (FindsTallies st card c) (tallies-once st card c) (NoTallies (f .refusal)) (f .says (allCounts t)))
       (settles ts tt)
 
-  -- the summary: its promise is an equation
-  summary-one : OneAnswer Summary (FindsSummary st)
-  summary-one = record { answer = st .summary; fits = refl; only = λ q f. f }
+  summary-one : (card : ℕ) → OneAnswer SummaryFound (FindsSummary st card)
+  unfolding FindsSummary
+  summary-one card =
+      let ts = cardTest card ∷ [] in
+      let s = st .summary in
+      ⊎-elim
+      (λ (z : firstOf ts ≡ 0). one SummaryFound (FindsSummary st card) (summaries-once st card) (FoundSummary s) (taken-says ts (summaryNumbers s) z))
+      (λ (f : Fitting ts). one SummaryFound (FindsSummary st card) (summaries-once st card) (NoSummary (f .refusal)) (f .says (summaryNumbers s)))
+      (settles ts tt)
 
-  health-one : (c : ℕ) → OneAnswer HealthFound (FindsHealth st c)
+  health-one : (card c : ℕ) → OneAnswer HealthFound (FindsHealth st card c)
   unfolding FindsHealth
-  health-one c =
-      let ts = gateTests c in
+  health-one card c =
+      let ts = gateTests card c in
       let h = healthBy (keptAt st c) (st .book) in
       ⊎-elim
-      (λ (z : firstOf ts ≡ 0). one HealthFound (FindsHealth st c) (health-once st c) (FoundHealth h) (taken-says ts (healthNumber h ∷ []) z))
-      (λ (f : Fitting ts). one HealthFound (FindsHealth st c) (health-once st c) (NoHealth (f .refusal)) (f .says (healthNumber h ∷ [])))
+      (λ (z : firstOf ts ≡ 0). one HealthFound (FindsHealth st card c) (health-once st card c) (FoundHealth h) (taken-says ts (healthNumber h ∷ []) z))
+      (λ (f : Fitting ts). one HealthFound (FindsHealth st card c) (health-once st card c) (NoHealth (f .refusal)) (f .says (healthNumber h ∷ [])))
       (settles ts tt)
 
   -- EVERY CALL ANSWERS, of any station
@@ -138,6 +145,7 @@ module _ (st : Station) where
         immediate-of = records-exactly st;
         entry-of = entries-exactly st;
         tallies-of = tallies-exactly st;
+        summary-of = summaries-exactly st;
         health-of = health-exactly st;
       }
 

@@ -39,33 +39,33 @@ told-by m v w p told e ts a =
     (λ (f : Fitting ts). record { answer = Refused (f .refusal); is = f .says told }) (settles ts a)
 
 -- ---- an offer has an answer, and so has a reset
-pub some-answer : (st : Station) (c epoch : ℕ) (s : List ℕ) → Told (stationTests st c epoch s) (toldIn st c epoch s)
+pub some-answer : (st : Station) (card c epoch : ℕ) (s : List ℕ) → Told (stationTests st card c epoch s) (toldIn st c epoch s)
 unfolding soundTests
-some-answer st c epoch s =
+some-answer st card c epoch s =
     told-by (numberIn (wholeOf s)) (verdictIn s) (newsOf (heldAt st c) epoch (wholeOf s)) (polarityOf (numberOf s)) (toldIn st c epoch s)
-    (polarity-in (heldAt st c) epoch s) (stationTests st c epoch s) tt
+    (polarity-in (heldAt st c) epoch s) (stationTests st card c epoch s) tt
 
-pub offer-answers : (st : Station) (c epoch : ℕ) (s : List ℕ)
-    → OffersTo st c epoch s (record { station = stationAfter st c epoch s; answer = some-answer st c epoch s .answer })
-offer-answers st c epoch s = record { answer = some-answer st c epoch s .is; station = refl }
+pub offer-answers : (st : Station) (card c epoch : ℕ) (s : List ℕ)
+    → OffersTo st card c epoch s (record { station = stationAfter st card c epoch s; answer = some-answer st card c epoch s .answer })
+offer-answers st card c epoch s = record { answer = some-answer st card c epoch s .is; station = refl }
 
 written-by : (ts : List Test) → T (named ts) → (w : Written) × (writtenPaper w ≡ answerOf ts [])
 written-by ts a =
     ⊎-elim (λ (z : firstOf ts ≡ 0). (Done, taken-says ts [] z)) (λ (f : Fitting ts). (NotWritten (f .refusal), f .says [])) (settles ts a)
 
-pub reset-answer : ℕ → Written
-reset-answer c = written-by (gateTests c) tt .0
+pub reset-answer : ℕ → ℕ → Written
+reset-answer card c = written-by (gateTests card c) tt .0
 
-pub reset-answers : (st : Station) (c : ℕ) → Resets st c (record { station = stationReset st c; answer = reset-answer c })
+pub reset-answers : (st : Station) (card c : ℕ) → Resets st card c (record { station = stationReset st card c; answer = reset-answer card c })
 unfolding reset-answer
-reset-answers st c = record { answer = written-by (gateTests c) tt .1; station = refl }
+reset-answers st card c = record { answer = written-by (gateTests card c) tt .1; station = refl }
 
 -- EVERY HISTORY HAS ITS RUN
 pub every-history : (cs : List Call) → Runs cs (stationOf cs)
 unfolding stationOf
 every-history [] = fresh
-every-history (Offer c epoch s ∷ cs) =
-    offering c epoch s cs (stationOf cs) (record { station = stationAfter (stationOf cs) c epoch s; answer = some-answer (stationOf cs) c epoch s .answer })
-    (every-history cs) (offer-answers (stationOf cs) c epoch s)
-every-history (Reset c ∷ cs) =
-    resetting c cs (stationOf cs) (record { station = stationReset (stationOf cs) c; answer = reset-answer c }) (every-history cs) (reset-answers (stationOf cs) c)
+every-history (Offer card c epoch s ∷ cs) =
+    offering card c epoch s cs (stationOf cs) (record { station = stationAfter (stationOf cs) card c epoch s; answer = some-answer (stationOf cs) card c epoch s .answer })
+    (every-history cs) (offer-answers (stationOf cs) card c epoch s)
+every-history (Reset card c ∷ cs) =
+    resetting card c cs (stationOf cs) (record { station = stationReset (stationOf cs) card c; answer = reset-answer card c }) (every-history cs) (reset-answers (stationOf cs) card c)

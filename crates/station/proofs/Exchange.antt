@@ -23,8 +23,8 @@ use Rattle.station.proofs.Reorder.{offer-said, reset-said, said-same, s
 -- ---- a run with its answers is a run of its calls
 pub runs-of : (all : List Said) (st : Station) → RunsFrom freshStation all st → Runs (callsOf all) st
 runs-of all st none = fresh
-runs-of all st (offers c epoch s before old r run o) = offering c epoch s (callsOf before) old r (runs-of before old run) o
-runs-of all st (resets c before old r run o) = resetting c (callsOf before) old r (runs-of before old run) o
+runs-of all st (offers card c epoch s before old r run o) = offering card c epoch s (callsOf before) old r (runs-of before old run) o
+runs-of all st (resets card c before old r run o) = resetting card c (callsOf before) old r (runs-of before old run) o
 
 -- and each answer is the one that the calls before determine
 abbrev pub AllTold : List Said → Type 0
@@ -33,8 +33,8 @@ AllTold (x ∷ before) = (x .answer ≡ saidAfter (callsOf before) (x .call)) ×
 
 pub all-told : (all : List Said) (st : Station) → RunsFrom freshStation all st → AllTold all
 all-told all st none = tt
-all-told all st (offers c epoch s before old r run o) = (offer-said (callsOf before) old (runs-of before old run) c epoch s r o, all-told before old run)
-all-told all st (resets c before old r run o) = (reset-said (callsOf before) old c r o, all-told before old run)
+all-told all st (offers card c epoch s before old r run o) = (offer-said (callsOf before) old (runs-of before old run) card c epoch s r o, all-told before old run)
+all-told all st (resets card c before old r run o) = (reset-said (callsOf before) old card c r o, all-told before old run)
 
 -- so the calls tell the answers
 unfoldable allSaid : List Call → List Said
@@ -50,38 +50,38 @@ said-is (x ∷ before) t = ap₂ (λ (a : List ℕ) (l : List Said). said (x .ca
 run-of : (cs : List Call) → RunsFrom freshStation (allSaid cs) (stationOf cs)
 unfolding stationOf allSaid
 run-of [] = none
-run-of (Offer c epoch s ∷ cs) =
+run-of (Offer card c epoch s ∷ cs) =
     let st = stationOf cs in
-    let o = offer-answers st c epoch s in
-    let r : Stepped = record { station = stationAfter st c epoch s; answer = some-answer st c epoch s .answer } in
-    subst (λ (a : List ℕ). RunsFrom freshStation (said (Offer c epoch s) a ∷ allSaid cs) (stationAfter st c epoch s))
-    (offer-said cs st (every-history cs) c epoch s r o) (offers c epoch s (allSaid cs) st r (run-of cs) o)
-run-of (Reset c ∷ cs) =
+    let o = offer-answers st card c epoch s in
+    let r : Stepped = record { station = stationAfter st card c epoch s; answer = some-answer st card c epoch s .answer } in
+    subst (λ (a : List ℕ). RunsFrom freshStation (said (Offer card c epoch s) a ∷ allSaid cs) (stationAfter st card c epoch s))
+    (offer-said cs st (every-history cs) card c epoch s r o) (offers card c epoch s (allSaid cs) st r (run-of cs) o)
+run-of (Reset card c ∷ cs) =
     let st = stationOf cs in
-    let r : Emptied = record { station = stationReset st c; answer = reset-answer c } in
-    subst (λ (a : List ℕ). RunsFrom freshStation (said (Reset c) a ∷ allSaid cs) (stationReset st c))
-    (reset-said cs st c r (reset-answers st c)) (resets c (allSaid cs) st r (run-of cs) (reset-answers st c))
+    let r : Emptied = record { station = stationReset st card c; answer = reset-answer card c } in
+    subst (λ (a : List ℕ). RunsFrom freshStation (said (Reset card c) a ∷ allSaid cs) (stationReset st card c))
+    (reset-said cs st card c r (reset-answers st card c)) (resets card c (allSaid cs) st r (run-of cs) (reset-answers st card c))
 
 -- so has any list of calls from any station
 pub every-run : (from : Station) (cs : List Call) → Ran from cs
 every-run from [] = record { all = []; calls = refl; left = from; run = none }
-every-run from (Offer c epoch s ∷ cs) =
+every-run from (Offer card c epoch s ∷ cs) =
     let w = every-run from cs in
-    let r : Stepped = record { station = stationAfter (w .left) c epoch s; answer = some-answer (w .left) c epoch s .answer } in
+    let r : Stepped = record { station = stationAfter (w .left) card c epoch s; answer = some-answer (w .left) card c epoch s .answer } in
     record {
-      all = said (Offer c epoch s) (answerPaper (r .answer)) ∷ w .all;
-      calls = ap (λ (l : List Call). Offer c epoch s ∷ l) (w .calls);
+      all = said (Offer card c epoch s) (answerPaper (r .answer)) ∷ w .all;
+      calls = ap (λ (l : List Call). Offer card c epoch s ∷ l) (w .calls);
       left = r .station;
-      run = offers c epoch s (w .all) (w .left) r (w .run) (offer-answers (w .left) c epoch s);
+      run = offers card c epoch s (w .all) (w .left) r (w .run) (offer-answers (w .left) card c epoch s);
     }
-every-run from (Reset c ∷ cs) =
+every-run from (Reset card c ∷ cs) =
     let w = every-run from cs in
-    let r : Emptied = record { station = stationReset (w .left) c; answer = reset-answer c } in
+    let r : Emptied = record { station = stationReset (w .left) card c; answer = reset-answer card c } in
     record {
-      all = said (Reset c) (writtenPaper (r .answer)) ∷ w .all;
-      calls = ap (λ (l : List Call). Reset c ∷ l) (w .calls);
+      all = said (Reset card c) (writtenPaper (r .answer)) ∷ w .all;
+      calls = ap (λ (l : List Call). Reset card c ∷ l) (w .calls);
       left = r .station;
-      run = resets c (w .all) (w .left) r (w .run) (reset-answers (w .left) c);
+      run = resets card c (w .all) (w .left) r (w .run) (reset-answers (w .left) card c);
     }
 
 -- ---- two neighbours exchanged
@@ -114,7 +114,7 @@ module _ (x y : Said) (differ : channelOf (x .call) ≡ channelOf (y .call) → 
       let turned = later ++ (y ∷ x ∷ earlier) in
       let told : turned ≡ allSaid (callsOf turned) = said-is turned (told-still later earlier (all-told all st run)) in
       let same : (cs : List Call) (st′ : Station) → cs ≡ callsOf turned → Runs cs st′ → st ≡ st′ =
-      λ cs st′ q r. reorder (callsOf all) (callsOf turned) st st′ (runs-of all st run) (subst (λ (l : List Call). Runs l st′) q r) (λ c e. same-on later earlier c)
+      λ cs st′ q r. reorder (callsOf all) (callsOf turned) st st′ (runs-of all st run) (subst (λ (l : List Call). Runs l st′) q r) (λ card c e. same-on later earlier c)
       in
       record {
         unchanged = subst (λ (l : List Said). RunsFrom freshStation l st) (sym told)
@@ -155,5 +155,5 @@ pub reordered : (all other : List Said) (st st′ : Station) → RunsFrom freshS
 reordered all other st st′ run run′ same =
     record {
       station = reorder (callsOf all) (callsOf other) st st′ (runs-of all st run) (runs-of other st′ run′) same;
-      answers = λ c e. answers-are all (all-told all st run) c ∙ ap saidAll (same c e) ∙ sym (answers-are other (all-told other st′ run′) c);
+      answers = λ card c e. answers-are all (all-told all st run) c ∙ ap saidAll (same card c e) ∙ sym (answers-are other (all-told other st′ run′) c);
     }

@@ -23,5 +23,6 @@ pub mod WellMade
 pub mod Exchange
 pub mod EitherWay
 pub mod Tallied
+pub mod Isolation
 pub mod Relock
 pub mod Demands

@@ -17,22 +17,22 @@ use Rattle.station.specs.declared.Emptied.{Emptied}
 use Rattle.station.specs.Station.{gateTests, stationTests, OffersTo, Resets}
 
 -- NO SECOND ANSWER FITS, and no second station
-pub offers-to-once : (st : Station) (c epoch : ℕ) (s : List ℕ) (r q : Stepped) → OffersTo st c epoch s r → OffersTo st c epoch s q → r ≡ q
-offers-to-once st c epoch s r q a b =
+pub offers-to-once : (st : Station) (card c epoch : ℕ) (s : List ℕ) (r q : Stepped) → OffersTo st card c epoch s r → OffersTo st card c epoch s q → r ≡ q
+offers-to-once st card c epoch s r q a b =
     ap₂ (λ (x : Station) (y : Answer). record { station = x; answer = y }) (a .station ∙ sym (b .station))
     (answer-same (r .answer) (q .answer) (a .answer ∙ sym (b .answer)))
 
-pub resets-once : (st : Station) (c : ℕ) (r q : Emptied) → Resets st c r → Resets st c q → r ≡ q
-resets-once st c r q a b =
+pub resets-once : (st : Station) (card c : ℕ) (r q : Emptied) → Resets st card c r → Resets st card c q → r ≡ q
+resets-once st card c r q a b =
     ap₂ (λ (x : Station) (y : Written). record { station = x; answer = y }) (a .station ∙ sym (b .station))
     (written-same (r .answer) (q .answer) (a .answer ∙ sym (b .answer)))
 
 -- "The first that fits is given, and given only then"
-pub offers-to-exactly : (st : Station) (c epoch : ℕ) (s : List ℕ) (r : Stepped) → OffersTo st c epoch s r
-    → Exactly (stationTests st c epoch s) (answerPaper (r .answer))
+pub offers-to-exactly : (st : Station) (card c epoch : ℕ) (s : List ℕ) (r : Stepped) → OffersTo st card c epoch s r
+    → Exactly (stationTests st card c epoch s) (answerPaper (r .answer))
 unfolding soundTests
-offers-to-exactly st c epoch s r a =
-    exactly tt (record { answer = a .answer; output = refl {a = leftBy (firstOf (stationTests st c epoch s)) [] []} })
+offers-to-exactly st card c epoch s r a =
+    exactly tt (record { answer = a .answer; output = refl {a = leftBy (firstOf (stationTests st card c epoch s)) [] []} })
 
-pub resets-exactly : (st : Station) (c : ℕ) (r : Emptied) → Resets st c r → Exactly (gateTests c) (writtenPaper (r .answer))
-resets-exactly st c r a = exactly tt (record { answer = a .answer; output = refl {a = leftBy (firstOf (gateTests c)) [] []} })
+pub resets-exactly : (st : Station) (card c : ℕ) (r : Emptied) → Resets st card c r → Exactly (gateTests card c) (writtenPaper (r .answer))
+resets-exactly st card c r a = exactly tt (record { answer = a .answer; output = refl {a = leftBy (firstOf (gateTests card c)) [] []} })

@@ -1,5 +1,5 @@
--- A station that is asked has one answer (records-once, entries-once, tallies-once, health-once), and each number is given exactly where its test
--- is the first to fit (records-exactly, entries-exactly, tallies-exactly, health-exactly).
+-- A station that is asked has one answer (records-once, entries-once, tallies-once, summaries-once, health-once), and each number is given exactly where its test
+-- is the first to fit (records-exactly, entries-exactly, tallies-exactly, summaries-exactly, health-exactly).
 -- Assumes nothing.
 use mathlib.Core.Path.{_≡_, refl, sym, ap, _∙_}
 use mathlib.Core.List.{List, [], _∷_}
@@ -9,6 +9,7 @@ use lib.ListN.{getD}
 use Rattle.strings.specs.Pick.{pick}
 use Rattle.strings.specs.Numbers.{firstOf, leftBy, Exactly}
 use Rattle.strings.proofs.Answer.{refusal-same, not-taken, exactly}
+use Rattle.summary.specs.declared.Summary.{Summary}
 use Rattle.tallies.specs.declared.Tallies.{Tallies}
 use Rattle.station.specs.declared.Station.{Station}
 use Rattle.station.specs.declared.Health.{Health}
@@ -19,34 +20,36 @@ use Rattle.station.specs.declared.EntryFound.{EntryFound}
 use Rattle.station.specs.declared.EntryFound.the-variants.{Found as FoundEntry, Refused as NoEntry}
 use Rattle.station.specs.declared.TalliesFound.{TalliesFound}
 use Rattle.station.specs.declared.TalliesFound.the-variants.{Found as FoundTallies, Refused as NoTallies}
+use Rattle.station.specs.declared.SummaryFound.{SummaryFound}
+use Rattle.station.specs.declared.SummaryFound.the-variants.{Found as FoundSummary, Refused as NoSummary}
 use Rattle.station.specs.declared.HealthFound.{HealthFound}
 use Rattle.station.specs.declared.HealthFound.the-variants.{Found as FoundHealth, Refused as NoHealth}
-use Rattle.station.specs.Station.{gateTests}
-use Rattle.station.specs.Queries.{recordTests, recordPaper, FindsRecord, entryTests, entryPaper, FindsEntry, allCounts, talliesPaper, FindsTallies, healthNumber, healthPaper, FindsHealth}
+use Rattle.station.specs.Station.{cardTest, gateTests}
+use Rattle.station.specs.Queries.{recordTests, recordPaper, FindsRecord, entryTests, entryPaper, FindsEntry, allCounts, talliesPaper, FindsTallies, summaryNumbers, summaryPaper, FindsSummary, healthNumber, healthPaper, FindsHealth}
 
 -- ---- the immediate record
 -- NO SECOND ANSWER FITS
-pub records-once : (st : Station) (c : ℕ) (r q : RecordFound) → FindsRecord st c r → FindsRecord st c q → r ≡ q
-records-once st c (FoundRecord w) (FoundRecord v) a b = ap FoundRecord (a .words w refl ∙ sym (b .words v refl))
-records-once st c (FoundRecord w) (NoRecord q) a b = absurd (not-taken q [] (b .answer ∙ sym (a .answer)))
-records-once st c (NoRecord p) (FoundRecord v) a b = absurd (not-taken p [] (a .answer ∙ sym (b .answer)))
-records-once st c (NoRecord p) (NoRecord q) a b = ap NoRecord (refusal-same p q (a .answer ∙ sym (b .answer)))
+pub records-once : (st : Station) (card c : ℕ) (r q : RecordFound) → FindsRecord st card c r → FindsRecord st card c q → r ≡ q
+records-once st card c (FoundRecord w) (FoundRecord v) a b = ap FoundRecord (a .words w refl ∙ sym (b .words v refl))
+records-once st card c (FoundRecord w) (NoRecord q) a b = absurd (not-taken q [] (b .answer ∙ sym (a .answer)))
+records-once st card c (NoRecord p) (FoundRecord v) a b = absurd (not-taken p [] (a .answer ∙ sym (b .answer)))
+records-once st card c (NoRecord p) (NoRecord q) a b = ap NoRecord (refusal-same p q (a .answer ∙ sym (b .answer)))
 
 -- "The first that fits is given, and given only then"
-pub records-exactly : (st : Station) (c : ℕ) (r : RecordFound) → FindsRecord st c r → Exactly (recordTests st c) (recordPaper r)
-records-exactly st c r a = exactly tt (record { answer = a .answer; output = refl {a = leftBy (firstOf (recordTests st c)) [] []} })
+pub records-exactly : (st : Station) (card c : ℕ) (r : RecordFound) → FindsRecord st card c r → Exactly (recordTests st card c) (recordPaper r)
+records-exactly st card c r a = exactly tt (record { answer = a .answer; output = refl {a = leftBy (firstOf (recordTests st card c)) [] []} })
 
 -- ---- an entry
 -- NO SECOND ANSWER FITS
-pub entries-once : (st : Station) (k : ℕ) (r q : EntryFound) → FindsEntry st k r → FindsEntry st k q → r ≡ q
-entries-once st k (FoundEntry e) (FoundEntry f) a b = ap FoundEntry (a .entry e refl ∙ sym (b .entry f refl))
-entries-once st k (FoundEntry e) (NoEntry q) a b = absurd (not-taken q _ (b .answer ∙ sym (a .answer)))
-entries-once st k (NoEntry p) (FoundEntry f) a b = absurd (not-taken p _ (a .answer ∙ sym (b .answer)))
-entries-once st k (NoEntry p) (NoEntry q) a b = ap NoEntry (refusal-same p q (a .answer ∙ sym (b .answer)))
+pub entries-once : (st : Station) (card k : ℕ) (r q : EntryFound) → FindsEntry st card k r → FindsEntry st card k q → r ≡ q
+entries-once st card k (FoundEntry e) (FoundEntry f) a b = ap FoundEntry (a .entry e refl ∙ sym (b .entry f refl))
+entries-once st card k (FoundEntry e) (NoEntry q) a b = absurd (not-taken q _ (b .answer ∙ sym (a .answer)))
+entries-once st card k (NoEntry p) (FoundEntry f) a b = absurd (not-taken p _ (a .answer ∙ sym (b .answer)))
+entries-once st card k (NoEntry p) (NoEntry q) a b = ap NoEntry (refusal-same p q (a .answer ∙ sym (b .answer)))
 
 -- "The first that fits is given, and given only then"
-pub entries-exactly : (st : Station) (k : ℕ) (r : EntryFound) → FindsEntry st k r → Exactly (entryTests st k) (entryPaper r)
-entries-exactly st k r a = exactly tt (record { answer = a .answer; output = refl {a = leftBy (firstOf (entryTests st k)) [] []} })
+pub entries-exactly : (st : Station) (card k : ℕ) (r : EntryFound) → FindsEntry st card k r → Exactly (entryTests st card k) (entryPaper r)
+entries-exactly st card k r a = exactly tt (record { answer = a .answer; output = refl {a = leftBy (firstOf (entryTests st card k)) [] []} })
 
 -- ---- the tallies
 -- tallies, told by the numbers after the 0
@@ -80,14 +83,35 @@ tallies-same (NoTallies p) (FoundTallies u) e = absurd (not-taken p (allCounts u
 tallies-same (NoTallies p) (NoTallies q) e = ap NoTallies (refusal-same p q e)
 
 -- NO SECOND ANSWER FITS
-pub tallies-once : (st : Station) (c : ℕ) (r q : TalliesFound) → FindsTallies st c r → FindsTallies st c q → r ≡ q
+pub tallies-once : (st : Station) (card c : ℕ) (r q : TalliesFound) → FindsTallies st card c r → FindsTallies st card c q → r ≡ q
 unfolding FindsTallies
-tallies-once st c r q a b = tallies-same r q (a ∙ sym b)
+tallies-once st card c r q a b = tallies-same r q (a ∙ sym b)
 
 -- "The first that fits is given, and given only then"
-pub tallies-exactly : (st : Station) (c : ℕ) (r : TalliesFound) → FindsTallies st c r → Exactly (gateTests c) (talliesPaper r)
+pub tallies-exactly : (st : Station) (card c : ℕ) (r : TalliesFound) → FindsTallies st card c r → Exactly (gateTests card c) (talliesPaper r)
 unfolding FindsTallies
-tallies-exactly st c r a = exactly tt (record { answer = a; output = refl {a = leftBy (firstOf (gateTests c)) [] []} })
+tallies-exactly st card c r a = exactly tt (record { answer = a; output = refl {a = leftBy (firstOf (gateTests card c)) [] []} })
+
+-- ---- the summary
+-- an answer is known by its numbers
+abbrev summaryBy : List ℕ → Summary
+summaryBy l = record { count = getD l 1 0; oldest = getD l 2 0; newest = getD l 3 0 }
+
+summary-same : (r q : SummaryFound) → summaryPaper r ≡ summaryPaper q → r ≡ q
+summary-same (FoundSummary s) (FoundSummary t) e = ap (λ (l : List ℕ). FoundSummary (summaryBy l)) e
+summary-same (FoundSummary s) (NoSummary q) e = absurd (not-taken q (summaryNumbers s) (sym e))
+summary-same (NoSummary p) (FoundSummary t) e = absurd (not-taken p (summaryNumbers t) e)
+summary-same (NoSummary p) (NoSummary q) e = ap NoSummary (refusal-same p q e)
+
+-- NO SECOND ANSWER FITS
+pub summaries-once : (st : Station) (card : ℕ) (r q : SummaryFound) → FindsSummary st card r → FindsSummary st card q → r ≡ q
+unfolding FindsSummary
+summaries-once st card r q a b = summary-same r q (a ∙ sym b)
+
+-- "The first that fits is given, and given only then"
+pub summaries-exactly : (st : Station) (card : ℕ) (r : SummaryFound) → FindsSummary st card r → Exactly (cardTest card ∷ []) (summaryPaper r)
+unfolding FindsSummary
+summaries-exactly st card r a = exactly tt (record { answer = a; output = refl {a = leftBy (firstOf (cardTest card ∷ [])) [] []} })
 
 -- ---- health
 -- the health of a number
@@ -108,11 +132,11 @@ health-same (NoHealth p) (FoundHealth g) e = absurd (not-taken p (healthNumber g
 health-same (NoHealth p) (NoHealth q) e = ap NoHealth (refusal-same p q e)
 
 -- NO SECOND ANSWER FITS
-pub health-once : (st : Station) (c : ℕ) (r q : HealthFound) → FindsHealth st c r → FindsHealth st c q → r ≡ q
+pub health-once : (st : Station) (card c : ℕ) (r q : HealthFound) → FindsHealth st card c r → FindsHealth st card c q → r ≡ q
 unfolding FindsHealth
-health-once st c r q a b = health-same r q (a ∙ sym b)
+health-once st card c r q a b = health-same r q (a ∙ sym b)
 
 -- "The first that fits is given, and given only then"
-pub health-exactly : (st : Station) (c : ℕ) (r : HealthFound) → FindsHealth st c r → Exactly (gateTests c) (healthPaper r)
+pub health-exactly : (st : Station) (card c : ℕ) (r : HealthFound) → FindsHealth st card c r → Exactly (gateTests card c) (healthPaper r)
 unfolding FindsHealth
-health-exactly st c r a = exactly tt (record { answer = a; output = refl {a = leftBy (firstOf (gateTests c)) [] []} })
+health-exactly st card c r a = exactly tt (record { answer = a; output = refl {a = leftBy (firstOf (gateTests card c)) [] []} })

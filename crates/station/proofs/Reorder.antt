@@ -24,7 +24,7 @@ use Rattle.channel.proofs.HeldFrame.{held-is, offered-is}
 use Rattle.station.specs.declared.Station.{Station}
 use Rattle.station.specs.declared.Stepped.{Stepped}
 use Rattle.station.specs.declared.Emptied.{Emptied}
-use Rattle.station.specs.Station.{noRow, rowAt, heldAt, isServed, shutSays, toldIn, OffersTo, Resets}
+use Rattle.station.specs.Station.{ownerOf, noRow, rowAt, heldAt, isServed, shutSays, toldIn, OffersTo, Resets}
 use Rattle.station.specs.History.{Call, Offer, Reset, channelOf, itself, isLetIn, shutSaid, isOn, callsOn, saidOn, saidAfter, Part, ShownIn, Runs}
 use Rattle.station.specs.Demand3.{SameCalls}
 use Rattle.station.proofs.Served.{open-says, shut-says, served-below, below-served}
@@ -52,15 +52,16 @@ runs-once cs row row′ a b = runs-is cs row a ∙ sym (runs-is cs row′ b)
 
 -- ---- two histories with the same calls on every channel
 same-back : (cs ds : List Call) → SameCalls cs ds → SameCalls ds cs
-same-back cs ds same c e = sym (same c e)
+same-back cs ds same card c e = sym (same card c e)
 
 same-shown : (cs ds : List Call) → SameCalls cs ds → (k : ℕ) (u : Three) → ShownIn cs k u → ShownIn ds k u
 same-shown cs ds same k u w =
     record {
+      card = w .card;
       channel = w .channel;
       served = w .served;
       moment = w .moment;
-      within = subst (Part (w .moment)) (same (w .channel) (w .served)) (w .within);
+      within = subst (Part (w .moment)) (same (w .card) (w .channel) (w .served)) (w .within);
       pair = w .pair;
       named = w .named;
       shows = w .shows;
@@ -92,15 +93,15 @@ module _ (cs ds : List Call) (st st′ : Station) (run : Runs cs st) (run′ : R
 
   -- that had the same calls on every channel
   module _ (same : SameCalls cs ds) where
-    same-row : (c : ℕ) → isServed c ≡ true → rowAt st c ≡ rowAt st′ c
-    same-row c e =
-        runs-once (callsOn c ds) (rowAt st c) (rowAt st′ c) (subst (λ (l : List OnChannel). ChannelRuns l (rowAt st c)) (same c e) (in-step cs st run .run c (served-below c e)))
-        (in-step ds st′ run′ .run c (served-below c e))
+    same-row : (card c : ℕ) → isServed card c ≡ true → rowAt st c ≡ rowAt st′ c
+    same-row card c e =
+        runs-once (callsOn c ds) (rowAt st c) (rowAt st′ c) (subst (λ (l : List OnChannel). ChannelRuns l (rowAt st c)) (same card c e) (in-step cs st run .run c (served-below card c e)))
+        (in-step ds st′ run′ .run c (served-below card c e))
 
     same-rows : st .rows ≡ st′ .rows
     same-rows =
         let l = in-step cs st run .long in
-        ext-getD noRow (st .rows) (st′ .rows) (l ∙ sym (in-step ds st′ run′ .long)) (λ c h. same-row c (below-served c (omega (arith, l))))
+        ext-getD noRow (st .rows) (st′ .rows) (l ∙ sym (in-step ds st′ run′ .long)) (λ c h. same-row (ownerOf c) c (below-served c (omega (arith, l))))
 
     -- ARE THE SAME STATION: only each channel's own order counts
     pub reorder : st ≡ st′
@@ -114,23 +115,23 @@ pub said-same : (cs ds : List Call) (call : Call) → callsOn (channelOf call) c
 unfolding saidAfter
 said-same cs ds call e = ap (λ (l : List OnChannel). pick (isLetIn call) (saidOn (itself call) l) (shutSaid call)) e
 
-pub offer-said : (cs : List Call) (st : Station) → Runs cs st → (c epoch : ℕ) (s : List ℕ) (r : Stepped) → OffersTo st c epoch s r
-    → answerPaper (r .answer) ≡ saidAfter cs (Offer c epoch s)
+pub offer-said : (cs : List Call) (st : Station) → Runs cs st → (card c epoch : ℕ) (s : List ℕ) (r : Stepped) → OffersTo st card c epoch s r
+    → answerPaper (r .answer) ≡ saidAfter cs (Offer card c epoch s)
 unfolding saidAfter
-offer-said cs st run c epoch s r o = by (isServed c) refl
+offer-said cs st run card c epoch s r o = by (isServed card c) refl
   where
-    by : (t : Bool) → isServed c ≡ t → answerPaper (r .answer) ≡ pick t (saidTo (heldAfter (callsOn c cs)) epoch s) (shutSays c)
-    by false e = o .answer ∙ shut-says c (offerTests (heldAt st c) epoch s) (toldIn st c epoch s) e
+    by : (t : Bool) → isServed card c ≡ t → answerPaper (r .answer) ≡ pick t (saidTo (heldAfter (callsOn c cs)) epoch s) (shutSays card c)
+    by false e = o .answer ∙ shut-says card c (offerTests (heldAt st c) epoch s) (toldIn st c epoch s) e
     by true e =
-        own-answer st c epoch s r e o ∙ ap (λ (f : Frame). saidTo f epoch s) (held-is (callsOn c cs) (rowAt st c) (in-step cs st run .run c (served-below c e)))
+        own-answer st card c epoch s r e o ∙ ap (λ (f : Frame). saidTo f epoch s) (held-is (callsOn c cs) (rowAt st c) (in-step cs st run .run c (served-below card c e)))
 
-pub reset-said : (cs : List Call) (st : Station) (c : ℕ) (r : Emptied) → Resets st c r → writtenPaper (r .answer) ≡ saidAfter cs (Reset c)
+pub reset-said : (cs : List Call) (st : Station) (card c : ℕ) (r : Emptied) → Resets st card c r → writtenPaper (r .answer) ≡ saidAfter cs (Reset card c)
 unfolding saidAfter
-reset-said cs st c r o = by (isServed c) refl
+reset-said cs st card c r o = by (isServed card c) refl
   where
-    by : (t : Bool) → isServed c ≡ t → writtenPaper (r .answer) ≡ pick t (0 ∷ []) (shutSays c)
+    by : (t : Bool) → isServed card c ≡ t → writtenPaper (r .answer) ≡ pick t (0 ∷ []) (shutSays card c)
     by false e = o .answer
-    by true e = o .answer ∙ open-says c [] [] e
+    by true e = o .answer ∙ open-says card c [] [] e
 
 -- ---- two neighbouring calls on different channels
 module _ (x y : Call) (differ : channelOf x ≡ channelOf y → ⊥) where

@@ -116,11 +116,11 @@ not-four m = by (leb m 4) (eqb 1 m) (eqb 2 m) refl refl
     by true true true p q = let x = eqb-true 1 m p in let y = eqb-true 2 m q in absurd (omega arith)
 
 -- ---- DAMAGED, whatever the channel holds
-damaged : (st : Station) (c epoch k : ℕ) (s : List ℕ) (r : Stepped) → isServed c ≡ true → k < 2 ^ 84 → (d : Damage) → ruling k ≡ Damaged d → SentAs k s
-    → OffersTo st c epoch s r → answerPaper (r .answer) ≡ damageNumber d ∷ []
-damaged st c epoch k s r l h d q e o =
+damaged : (st : Station) (card c epoch k : ℕ) (s : List ℕ) (r : Stepped) → isServed card c ≡ true → k < 2 ^ 84 → (d : Damage) → ruling k ≡ Damaged d → SentAs k s
+    → OffersTo st card c epoch s r → answerPaper (r .answer) ≡ damageNumber d ∷ []
+damaged st card c epoch k s r l h d q e o =
     let p = damaged-says (plainOf s) d (ap ruling (sent-plain k s h e) ∙ q) (placeTests (heldAt st c) epoch (wholeOf s)) in
-    o .answer ∙ open-says c (offerTests (heldAt st c) epoch s) (toldIn st c epoch s) l ∙ rw (sent-shaped k s h e, p .0, p .1) (alone d)
+    o .answer ∙ open-says card c (offerTests (heldAt st c) epoch s) (toldIn st c epoch s) l ∙ rw (sent-shaped k s h e, p .0, p .1) (alone d)
   where
     alone : (d : Damage) → saidBy (damageNumber d) [] (toldIn st c epoch s) ≡ damageNumber d ∷ []
     alone Unplaced = refl
@@ -128,7 +128,7 @@ damaged st c epoch k s r l h d q e o =
     alone Outside = refl
 
 -- ---- bytes that the check leaves as n with the verdict v, where their channel awaits that string
-module _ (st : Station) (c epoch n : ℕ) (a : Awaits st c epoch n) (idle : bitOf n 85 ≡ 0) (s : List ℕ) (v : Verdict) (w : LeftAs s n v) where
+module _ (st : Station) (card c epoch n : ℕ) (a : Awaits st card c epoch n) (idle : bitOf n 85 ≡ 0) (s : List ℕ) (v : Verdict) (w : LeftAs s n v) where
   abbrev row : Row
   row = rowAt st c
 
@@ -151,9 +151,9 @@ module _ (st : Station) (c epoch n : ℕ) (a : Awaits st c epoch n) (idle : bitO
       heard-then s (placeTests (frameOf row) epoch (wholeOf s)) (w .shape) (record { sound = ap isDamaged (w .rules); idle = ap isIdle (w .whole) ∙ not-idle })
 
   -- taken, kept, and told with the first symbol
-  taken : (r : Stepped) → OffersTo st c epoch s r → answerPaper (r .answer) ≡ 0 ∷ mOf n ∷ ((verdictPaper v ++ (1 ∷ [])) ++ (firstSymbol (numberOf s) ∷ []))
+  taken : (r : Stepped) → OffersTo st card c epoch s r → answerPaper (r .answer) ≡ 0 ∷ mOf n ∷ ((verdictPaper v ++ (1 ∷ [])) ++ (firstSymbol (numberOf s) ∷ []))
   taken r o =
-      o .answer ∙ open-says c (offerTests (heldAt st c) epoch s) (toldIn st c epoch s) (a .served)
+      o .answer ∙ open-says card c (offerTests (heldAt st c) epoch s) (toldIn st c epoch s) (a .served)
       ∙ rw (passes .0, passes .1, w .rules, w .whole, not-zero, in-time, holds-none, not-four (mOf n))
 
   -- the row and the book that it leaves
@@ -181,7 +181,7 @@ module _ (st : Station) (c epoch n : ℕ) (a : Awaits st c epoch n) (idle : bitO
   summary-left : summaryAfter (st .summary) (st .book) row epoch s ≡ corrected (changes (st .book) shown) (brought (st .book) shown) (st .summary)
   summary-left = ap₂ (λ (t : Bool) (b : Book). corrected t b (st .summary)) changes-left book-left
 
-  module _ (r : Stepped) (o : OffersTo st c epoch s r) where
+  module _ (r : Stepped) (o : OffersTo st card c epoch s r) where
     station-left : r .station ≡ record {
       rows = set (st .rows) c next;
       book = brought (st .book) shown;
@@ -191,34 +191,34 @@ module _ (st : Station) (c epoch n : ℕ) (a : Awaits st c epoch n) (idle : bitO
     station-left = o .station ∙ rw (a .served) (same-station _ _ (ap (set (st .rows) c) row-left) book-left summary-left)
 
     its-row : length (st .rows) ≡ channels → rowAt (r .station) c ≡ next
-    its-row long = ap (λ (x : Station). rowAt x c) station-left ∙ getD-set-same (st .rows) c next noRow (omega (arith, served-below c (a .served)))
+    its-row long = ap (λ (x : Station). rowAt x c) station-left ∙ getD-set-same (st .rows) c next noRow (omega (arith, served-below card c (a .served)))
 
     other-row : (k : ℕ) → (k ≡ c → ⊥) → rowAt (r .station) k ≡ rowAt st k
     other-row k d = ap (λ (x : Station). rowAt x k) station-left ∙ getD-set-other (st .rows) c k next noRow d
 
   -- and the tallies that are then told
-  told : (r : Stepped) (t : TalliesFound) → OffersTo st c epoch s r → length (st .rows) ≡ channels → FindsTallies (r .station) c t
+  told : (r : Stepped) (t : TalliesFound) → OffersTo st card c epoch s r → length (st .rows) ≡ channels → FindsTallies (r .station) card c t
       → talliesPaper t ≡ 0 ∷ oneMore (talliesAt st c .offered) ∷ oneMoreIf (isClean (Taken v)) (talliesAt st c .clean)
       ∷ oneMoreIf (isRepaired (Taken v)) (talliesAt st c .repaired) ∷ talliesAt st c .refused ∷ map (causeOf (talliesAt st c)) causes
   unfolding FindsTallies counted takenRow causesAfter
-  told r t o long f = f ∙ open-says c [] (allCounts (rowAt (r .station) c .tallies)) (a .served) ∙ ap (λ (z : Row). 0 ∷ allCounts (z .tallies)) (its-row r o long)
+  told r t o long f = f ∙ open-says card c [] (allCounts (rowAt (r .station) c .tallies)) (a .served) ∙ ap (λ (z : Row). 0 ∷ allCounts (z .tallies)) (its-row r o long)
 
 -- ---- the string as it is and with bit i wrong leave one station, but for the verdict's tally
-same-left : (st : Station) (c epoch n : ℕ) → SentString n → (i : ℕ) (s t : List ℕ) (q r : Stepped) → length (st .rows) ≡ channels → Awaits st c epoch n
-    → IsBit i → (i ≡ 8 → ⊥) → SentAs n s → OffersTo st c epoch s q → SentAs (flip n i) t → OffersTo st c epoch t r
+same-left : (st : Station) (card c epoch n : ℕ) → SentString n → (i : ℕ) (s t : List ℕ) (q r : Stepped) → length (st .rows) ≡ channels → Awaits st card c epoch n
+    → IsBit i → (i ≡ 8 → ⊥) → SentAs n s → OffersTo st card c epoch s q → SentAs (flip n i) t → OffersTo st card c epoch t r
     → SameButVerdict st c (q .station) (r .station)
 unfolding counted takenRow causesAfter
-same-left st c epoch n g i s t q r long a b ne e o f p =
+same-left st card c epoch n g i s t q r long a b ne e o f p =
     let w = left-clean n g s e in
     let v = left-repaired n g i b t ne f in
-    let x = its-row st c epoch n a (g .idle) s Clean w q o long in
-    let y = its-row st c epoch n a (g .idle) t (Repaired i) v r p long in
+    let x = its-row st card c epoch n a (g .idle) s Clean w q o long in
+    let y = its-row st card c epoch n a (g .idle) t (Repaired i) v r p long in
     record {
-      book = ap (λ (z : Station). z .book) (station-left st c epoch n a (g .idle) t (Repaired i) v r p)
-          ∙ sym (ap (λ (z : Station). z .book) (station-left st c epoch n a (g .idle) s Clean w q o));
-      summary = ap (λ (z : Station). z .summary) (station-left st c epoch n a (g .idle) t (Repaired i) v r p)
-          ∙ sym (ap (λ (z : Station). z .summary) (station-left st c epoch n a (g .idle) s Clean w q o));
-      others = λ k d. other-row st c epoch n a (g .idle) t (Repaired i) v r p k d ∙ sym (other-row st c epoch n a (g .idle) s Clean w q o k d);
+      book = ap (λ (z : Station). z .book) (station-left st card c epoch n a (g .idle) t (Repaired i) v r p)
+          ∙ sym (ap (λ (z : Station). z .book) (station-left st card c epoch n a (g .idle) s Clean w q o));
+      summary = ap (λ (z : Station). z .summary) (station-left st card c epoch n a (g .idle) t (Repaired i) v r p)
+          ∙ sym (ap (λ (z : Station). z .summary) (station-left st card c epoch n a (g .idle) s Clean w q o));
+      others = λ k d. other-row st card c epoch n a (g .idle) t (Repaired i) v r p k d ∙ sym (other-row st card c epoch n a (g .idle) s Clean w q o k d);
       strings = ap (λ (z : Row). z .strings) y ∙ sym (ap (λ (z : Row). z .strings) x);
       start = ap (λ (z : Row). z .start) y ∙ sym (ap (λ (z : Row). z .start) x);
       present = ap (λ (z : Row). z .present) y ∙ sym (ap (λ (z : Row). z .present) x);
@@ -233,22 +233,22 @@ same-left st c epoch n g i s t q r long a b ne e o f p =
     }
 
 -- ---- A STRING IS HEARD AS IT WAS SENT
-pub heard-as-sent : (st : Station) (c epoch n : ℕ) → SentString n → HeardAsSent st c epoch n
-heard-as-sent st c epoch n g =
+pub heard-as-sent : (st : Station) (card c epoch n : ℕ) → SentString n → HeardAsSent st card c epoch n
+heard-as-sent st card c epoch n g =
     record {
       clean = λ s p r a e o.
-          taken st c epoch n a (g .idle) s Clean (left-clean n g s (sent-as n s p (low n g) e)) r o
+          taken st card c epoch n a (g .idle) s Clean (left-clean n g s (sent-as n s p (low n g) e)) r o
           ∙ ap (λ (b : ℕ). 0 ∷ mOf n ∷ 0 ∷ 0 ∷ 1 ∷ b ∷ []) (sent-first n s p (low n g) e);
       one-flip = λ i s p r a b ne e o.
           let k = flip n i in
           let h = flip-low n g i b in
-          taken st c epoch n a (g .idle) s (Repaired i) (left-repaired n g i b s ne (sent-as k s p h e)) r o
+          taken st card c epoch n a (g .idle) s (Repaired i) (left-repaired n g i b s ne (sent-as k s p h e)) r o
           ∙ ap (λ (x : ℕ). 0 ∷ mOf n ∷ 1 ∷ i ∷ 1 ∷ x ∷ []) (sent-first k s p h e);
-      left = same-left st c epoch n g;
-      clean-told = λ s r t long a e o f. told st c epoch n a (g .idle) s Clean (left-clean n g s e) r t o long f;
-      repaired-told = λ i s r t long a b ne e o f. told st c epoch n a (g .idle) s (Repaired i) (left-repaired n g i b s ne e) r t o long f;
-      bit-8 = λ s r l e o. damaged st c epoch (flip n 8) s r l (flip-low n g 8 (lit≤ tt, lit≤ tt)) Unplaced (bit-8-ruling n (g .encoded)) e o;
+      left = same-left st card c epoch n g;
+      clean-told = λ s r t long a e o f. told st card c epoch n a (g .idle) s Clean (left-clean n g s e) r t o long f;
+      repaired-told = λ i s r t long a b ne e o f. told st card c epoch n a (g .idle) s (Repaired i) (left-repaired n g i b s ne e) r t o long f;
+      bit-8 = λ s r l e o. damaged st card c epoch (flip n 8) s r l (flip-low n g 8 (lit≤ tt, lit≤ tt)) Unplaced (bit-8-ruling n (g .encoded)) e o;
       two-flips = λ i j s r l b d ne e o.
-          damaged st c epoch (flip (flip n i) j) s r l (flip-lt 84 (flip n i) j (flip-low n g i b) (d .0) (d .1))
+          damaged st card c epoch (flip (flip n i) j) s r l (flip-lt 84 (flip n i) j (flip-low n g i b) (d .0) (d .1))
           Even (two-flips-ruling n i j (g .encoded) (b .0) (omega (arith, b .1)) (d .0) (omega (arith, d .1)) ne) e o;
     }

@@ -1,23 +1,23 @@
 -- The gate before any other tests: a call that is served is told what those say (open-says), and one that is not what the gate says (shut-says). A call
--- that is served has a row (served-below), and every row is served (below-served).
+-- that is served has a row (served-below), which is its card's own (owner-is), and every row is served to its owner (below-served).
 -- Assumes nothing.
 use mathlib.Core.Path.{_≡_, refl, sym, ap, subst, _∙_}
 use mathlib.Core.Bool.{Bool, true, false, not, _&&_, true≢false}
 use mathlib.Core.List.{List, [], _∷_, _++_}
 use Prim.Native.Nat.{ℕ, zero, suc, _≤_, _<_}
 use native.Mathlib.Omega.{arith}
-use borrow.Author.Tests.{le-ltb, lt-ltb, ltb-false}
+use borrow.Author.Tests.{le-ltb, lt-ltb, ltb-false, eqb-true, eq-eqb, ne-eqb}
 use lib.Dec.{T, eqb, ltb}
 use lib.ListN.{getD}
 use Rattle.strings.specs.Pick.{pick}
 use Rattle.strings.specs.declared.Refusal.{Refusal}
-use Rattle.strings.specs.declared.Refusal.the-variants.{Channel}
-use Rattle.strings.specs.Numbers.{refusalPaper, Test, firstOf, placeOf, saidBy, answerOf}
+use Rattle.strings.specs.declared.Refusal.the-variants.{Channel, Owner, Card}
+use Rattle.strings.specs.Numbers.{refusalPaper, Test, test, firstOf, placeOf, saidBy, answerOf}
 use Rattle.strings.proofs.Below.{and-left, and-right}
 use Rattle.strings.proofs.Tests.{past-first, no-place, allOf}
 use Rattle.station.specs.declared.Gate.{Gate}
 use Rattle.station.specs.declared.Gate.the-variants.{Open, Shut}
-use Rattle.station.specs.Station.{channels, lastChannel, gateTests, noneFits, isServed, shutSays, Enters}
+use Rattle.station.specs.Station.{cardChannels, channels, lastChannel, ownerOf, isCard, gateTests, noneFits, isServed, shutSays, Enters}
 
 -- ---- tests before others
 -- none of them fits: the others give the answer
@@ -65,77 +65,113 @@ none-first (u ∷ us) a e =
     by false n z q next = next q
 
 -- ---- the gate
-module _ (c : ℕ) (ts : List Test) (told : List ℕ) where
-  pub open-says : isServed c ≡ true → answerOf (gateTests c ++ ts) told ≡ answerOf ts told
+module _ (card c : ℕ) (ts : List Test) (told : List ℕ) where
+  pub open-says : isServed card c ≡ true → answerOf (gateTests card c ++ ts) told ≡ answerOf ts told
   unfolding isServed
-  open-says e = none-fits (gateTests c) ts told e
+  open-says e = none-fits (gateTests card c) ts told e
 
-  pub shut-says : isServed c ≡ false → answerOf (gateTests c ++ ts) told ≡ shutSays c
+  pub shut-says : isServed card c ≡ false → answerOf (gateTests card c ++ ts) told ≡ shutSays card c
   unfolding isServed
-  shut-says e = one-fits (gateTests c) ts told tt e
+  shut-says e = one-fits (gateTests card c) ts told tt e
 
 -- where no test fits, none of those after the gate does
-pub past-gate : (c : ℕ) (ts : List Test) → firstOf (gateTests c ++ ts) ≡ 0 → firstOf ts ≡ 0
-past-gate c ts e = past-first 0 (ltb lastChannel c) ts e .1
+pub past-gate : (card c : ℕ) (ts : List Test) → firstOf (gateTests card c ++ ts) ≡ 0 → firstOf ts ≡ 0
+past-gate card c ts e =
+    let owner = test 15 (not (eqb (ownerOf c) card)) ∷ ts in
+    past-first 14 (not (eqb (ownerOf c) card)) ts
+    (past-first 0 (ltb lastChannel c) owner (past-first 15 (not (isCard card)) (test 1 (ltb lastChannel c) ∷ owner) e .1) .1) .1
 
--- a channel that is served is one of the rows
-pub served-below : (c : ℕ) → isServed c ≡ true → c < channels
+-- a call that is served is one of the cards', on one of the rows, which is its own
+pub served-parts : (card c : ℕ) → isServed card c ≡ true → (isCard card ≡ true) × ((ltb lastChannel c ≡ false) × (eqb (ownerOf c) card ≡ true))
 unfolding isServed
-served-below c e = by (ltb lastChannel c) refl e
+served-parts card c e = by (isCard card) (ltb lastChannel c) (eqb (ownerOf c) card) e
   where
-    by : (t : Bool) → ltb lastChannel c ≡ t → (not t && true) ≡ true → c < channels
-    by true q f = absurd (true≢false (sym f))
-    by false q f = let h : c ≤ lastChannel = ltb-false lastChannel c q in omega arith
+    by : (t u v : Bool) → (not (not t) && (not u && (not (not v) && true))) ≡ true → (t ≡ true) × ((u ≡ false) × (v ≡ true))
+    by true false true f = (refl, (refl, refl))
+    by true false false f = absurd (true≢false (sym f))
+    by true true v f = absurd (true≢false (sym f))
+    by false u v f = absurd (true≢false (sym f))
 
--- and each of them is
-pub below-served : (c : ℕ) → c < channels → isServed c ≡ true
+pub served-below : (card c : ℕ) → isServed card c ≡ true → c < channels
+served-below card c e = let h : c ≤ lastChannel = ltb-false lastChannel c (served-parts card c e .1 .0) in omega arith
+
+pub owner-is : (card c : ℕ) → isServed card c ≡ true → ownerOf c ≡ card
+owner-is card c e = eqb-true (ownerOf c) card (served-parts card c e .1 .1)
+
+-- and each row is served, to its owner
+pub owned-served : (card c : ℕ) → isCard card ≡ true → c ≤ lastChannel → ownerOf c ≡ card → isServed card c ≡ true
 unfolding isServed
-below-served c h = rw (le-ltb lastChannel c (omega arith))
+owned-served card c k h o = rw (k, le-ltb lastChannel c h, eq-eqb (ownerOf c) card o)
+
+pub owner-card : (c : ℕ) → isCard (ownerOf c) ≡ true
+owner-card c = by (ltb c cardChannels)
+  where
+    by : (t : Bool) → isCard (pick t 1 2) ≡ true
+    by true = refl
+    by false = refl
+
+pub below-served : (c : ℕ) → c < channels → isServed (ownerOf c) c ≡ true
+below-served c h = owned-served (ownerOf c) c (owner-card c) (omega arith) refl
 
 -- ---- what the code finds
-pub enters-shut : (c : ℕ) → lastChannel < c → Enters c (Shut Channel)
+pub enters-no-card : (card c : ℕ) → isCard card ≡ false → Enters card c (Shut Card)
 unfolding isServed
-enters-shut c l = let f = lt-ltb lastChannel c l in (rw f, rw f)
+enters-no-card card c k = (rw k, rw k)
 
-pub enters-open : (c i : ℕ) → c ≤ lastChannel → i ≡ c → Enters c (Open i)
+pub enters-no-channel : (card c : ℕ) → isCard card ≡ true → lastChannel < c → Enters card c (Shut Channel)
 unfolding isServed
-enters-open c i l e = (rw (le-ltb lastChannel c l), (e, omega arith))
+enters-no-channel card c k l = let f = lt-ltb lastChannel c l in (rw (k, f), rw (k, f))
 
-module _ (c : ℕ) {g : Gate} (n : Enters c g) where
-  pub opened : {i : ℕ} → g ≡ Open i → Enters c (Open i)
-  opened e = subst (Enters c) e n
+pub enters-not-owner : (card c : ℕ) → isCard card ≡ true → c ≤ lastChannel → (ownerOf c ≡ card → ⊥) → Enters card c (Shut Owner)
+unfolding isServed
+enters-not-owner card c k l n = let f = le-ltb lastChannel c l in let g = ne-eqb (ownerOf c) card n in (rw (k, f, g), rw (k, f, g))
 
-  pub shut : {why : Refusal} → g ≡ Shut why → Enters c (Shut why)
-  shut e = subst (Enters c) e n
+pub enters-open : (card c i : ℕ) → isCard card ≡ true → c ≤ lastChannel → ownerOf c ≡ card → i ≡ c → Enters card c (Open i)
+enters-open card c i k l o e = (owned-served card c k l o, (e, omega arith))
+
+module _ (card c : ℕ) {g : Gate} (n : Enters card c g) where
+  pub opened : {i : ℕ} → g ≡ Open i → Enters card c (Open i)
+  opened e = subst (Enters card c) e n
+
+  pub shut : {why : Refusal} → g ≡ Shut why → Enters card c (Shut why)
+  shut e = subst (Enters card c) e n
 
 -- what holds of the row where a call entered holds of its channel
-pub entered : (P : ℕ → Type 0) {c i : ℕ} → Enters c (Open i) → (isServed i ≡ true → P i) → P c
-entered P n f = subst P (n .1 .0) (f (ap isServed (n .1 .0) ∙ n .0))
+pub entered : (P : ℕ → Type 0) (card : ℕ) {c i : ℕ} → Enters card c (Open i) → (isServed card i ≡ true → P i) → P c
+entered P card n f = subst P (n .1 .0) (f (ap (isServed card) (n .1 .0) ∙ n .0))
 
 -- and its number: 0 where the call is served
-pub number-open : (c : ℕ) → isServed c ≡ true → 0 ≡ firstOf (gateTests c)
+pub number-open : (card c : ℕ) → isServed card c ≡ true → 0 ≡ firstOf (gateTests card c)
 unfolding isServed
-number-open c e = sym (first-none (gateTests c) e)
+number-open card c e = sym (first-none (gateTests card c) e)
 
--- else the refusal's
-pub number-shut : (c n : ℕ) (why : Refusal) → refusalPaper why ≡ shutSays c → n ≡ getD (refusalPaper why) 0 0 → n ≡ firstOf (gateTests c)
-number-shut c n why e q = q ∙ ap (λ (l : List ℕ). getD l 0 0) e ∙ begins (firstOf (gateTests c)) (placeOf (gateTests c))
+-- what it says begins with it
+shut-begins : (card c : ℕ) → getD (shutSays card c) 0 0 ≡ firstOf (gateTests card c)
+shut-begins card c = begins (firstOf (gateTests card c)) (placeOf (gateTests card c))
   where
     begins : (k : ℕ) (l : List ℕ) → getD (saidBy k l []) 0 0 ≡ k
     begins zero l = refl
     begins (suc k) l = refl
 
--- back from the number
-pub zero-served : (c : ℕ) → firstOf (gateTests c) ≡ 0 → isServed c ≡ true
-unfolding isServed
-zero-served c e = none-first (gateTests c) tt e
+-- else the refusal's
+pub number-shut : (card c n : ℕ) (why : Refusal) → refusalPaper why ≡ shutSays card c → n ≡ getD (refusalPaper why) 0 0 → n ≡ firstOf (gateTests card c)
+number-shut card c n why e q = q ∙ ap (λ (l : List ℕ). getD l 0 0) e ∙ shut-begins card c
 
-pub number-said : (c n : ℕ) → n ≡ firstOf (gateTests c) → 0 < n → (isServed c ≡ false) × (shutSays c ≡ n ∷ [])
+-- back from the number
+pub zero-served : (card c : ℕ) → firstOf (gateTests card c) ≡ 0 → isServed card c ≡ true
 unfolding isServed
-number-said c n e h = (not-served (isServed c) refl, rw (← e, no-place (gateTests c) tt) (alone n h))
+zero-served card c e = none-first (gateTests card c) tt e
+
+-- a call that is not served is never told 0
+pub shut-not-zero : (card c : ℕ) → isServed card c ≡ false → 0 ∷ [] ≡ shutSays card c → ⊥
+shut-not-zero card c q e = true≢false (sym (zero-served card c (sym (ap (λ (l : List ℕ). getD l 0 0) e ∙ shut-begins card c))) ∙ q)
+
+pub number-said : (card c n : ℕ) → n ≡ firstOf (gateTests card c) → 0 < n → (isServed card c ≡ false) × (shutSays card c ≡ n ∷ [])
+unfolding isServed
+number-said card c n e h = (not-served (isServed card c) refl, rw (← e, no-place (gateTests card c) tt) (alone n h))
   where
-    not-served : (t : Bool) → isServed c ≡ t → t ≡ false
-    not-served true q = absurd (omega (arith, h, e, first-none (gateTests c) q))
+    not-served : (t : Bool) → isServed card c ≡ t → t ≡ false
+    not-served true q = absurd (omega (arith, h, e, first-none (gateTests card c) q))
     not-served false q = refl
 
     alone : (k : ℕ) → 0 < k → saidBy k [] [] ≡ k ∷ []

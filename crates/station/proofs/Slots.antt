@@ -1,4 +1,4 @@
--- The entry of a slot is refused with SLOT exactly where the slot is 0 or above the last (slot-exactly).
+-- The entry of a slot that a card asks for is refused with SLOT exactly where the slot is 0 or above the last (slot-exactly).
 -- Assumes nothing.
 use mathlib.Core.Path.{_≡_, refl, sym, ap, _∙_}
 use mathlib.Core.Bool.{Bool, true, false, not, _&&_}
@@ -18,7 +18,7 @@ use Rattle.station.specs.Queries.{isEmpty, threeNumbers, entryPaper, Fin
 use Rattle.station.specs.Slots.{SlotExactly}
 
 pub slot-exactly : SlotExactly
-slot-exactly st slot r a = by (leb 1 slot) (leb slot slots) (isEmpty (st .book) slot) refl refl (a .answer)
+slot-exactly st card slot r k a = by (leb 1 slot) (leb slot slots) (isEmpty (st .book) slot) refl refl (a .answer ∙ rw k)
   where
     told : List ℕ
     told = threeNumbers (meaning (inSlot (st .book) slot))

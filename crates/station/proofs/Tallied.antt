@@ -85,19 +85,19 @@ since-is (x ∷ before) t c = by (x .call) (x .answer) (t .0) (since-is before (
 
     by : (call : Call) (a : List ℕ) → a ≡ saidAfter cs call → answersSince c before ≡ saidSince (callsOn c cs)
         → sinceReset c call a (answersSince c before) ≡ saidSince (callsOn c (call ∷ cs))
-    by (Offer k epoch s) a q ih = own (isOn c (Offer k epoch s)) refl
+    by (Offer card k epoch s) a q ih = own (isOn c (Offer card k epoch s)) refl
       where
-        own : (b : Bool) → isOn c (Offer k epoch s) ≡ b → pick b (a ∷ answersSince c before) (answersSince c before)
-            ≡ saidSince (pick b (itself (Offer k epoch s) ∷ callsOn c cs) (callsOn c cs))
+        own : (b : Bool) → isOn c (Offer card k epoch s) ≡ b → pick b (a ∷ answersSince c before) (answersSince c before)
+            ≡ saidSince (pick b (itself (Offer card k epoch s) ∷ callsOn c cs) (callsOn c cs))
         own true w =
             ap₂ (λ (x : List ℕ) (l : List (List ℕ)). x ∷ l)
-            (let p = on-both (Offer k epoch s) c w in
-            q ∙ ap (λ (b : Bool). pick b (saidOn (itself (Offer k epoch s)) (callsOn k cs)) (shutSaid (Offer k epoch s))) (p .0)
-            ∙ ap (λ (j : ℕ). saidOn (itself (Offer k epoch s)) (callsOn j cs)) (p .1)) ih
+            (let p = on-both (Offer card k epoch s) c w in
+            q ∙ ap (λ (b : Bool). pick b (saidOn (itself (Offer card k epoch s)) (callsOn k cs)) (shutSaid (Offer card k epoch s))) (p .0)
+            ∙ ap (λ (j : ℕ). saidOn (itself (Offer card k epoch s)) (callsOn j cs)) (p .1)) ih
         own false w = ih
-    by (Reset k) a q ih = own (isOn c (Reset k))
+    by (Reset card k) a q ih = own (isOn c (Reset card k))
       where
-        own : (b : Bool) → pick b [] (answersSince c before) ≡ saidSince (pick b (itself (Reset k) ∷ callsOn c cs) (callsOn c cs))
+        own : (b : Bool) → pick b [] (answersSince c before) ≡ saidSince (pick b (itself (Reset card k) ∷ callsOn c cs) (callsOn c cs))
         own true = refl
         own false = ih
 

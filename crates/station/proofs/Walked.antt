@@ -47,22 +47,22 @@ still-walked b old row epoch s h = by (entryChanges b row epoch s) refl
     by true e = refl
     by false e = h ∙ ap (λ (x : Book). walkOf (x .entries)) (sym (book-stays b row epoch s e))
 
-pub offer-walked : (st : Station) (c epoch : ℕ) (s : List ℕ) (r : Stepped) → Walked st → OffersTo st c epoch s r → Walked (r .station)
-offer-walked st c epoch s r w o = by (isServed c) refl
+pub offer-walked : (st : Station) (card c epoch : ℕ) (s : List ℕ) (r : Stepped) → Walked st → OffersTo st card c epoch s r → Walked (r .station)
+offer-walked st card c epoch s r w o = by (isServed card c) refl
   where
-    by : (t : Bool) → isServed c ≡ t → Walked (r .station)
-    by false e = subst Walked (sym (o .station ∙ after-none st c epoch s e)) w
-    by true e = subst Walked (sym (o .station ∙ after-some st c epoch s e)) (still-walked (st .book) (st .summary) (rowAt st c) epoch s w)
+    by : (t : Bool) → isServed card c ≡ t → Walked (r .station)
+    by false e = subst Walked (sym (o .station ∙ after-none st card c epoch s e)) w
+    by true e = subst Walked (sym (o .station ∙ after-some st card c epoch s e)) (still-walked (st .book) (st .summary) (rowAt st c) epoch s w)
 
-pub reset-walked : (st : Station) (c : ℕ) (r : Emptied) → Walked st → Resets st c r → Walked (r .station)
-reset-walked st c r w o = by (isServed c) refl
+pub reset-walked : (st : Station) (card c : ℕ) (r : Emptied) → Walked st → Resets st card c r → Walked (r .station)
+reset-walked st card c r w o = by (isServed card c) refl
   where
-    by : (t : Bool) → isServed c ≡ t → Walked (r .station)
-    by false e = subst Walked (sym (o .station ∙ reset-none st c e)) w
-    by true e = subst Walked (sym (o .station ∙ reset-some st c e)) w
+    by : (t : Bool) → isServed card c ≡ t → Walked (r .station)
+    by false e = subst Walked (sym (o .station ∙ reset-none st card c e)) w
+    by true e = subst Walked (sym (o .station ∙ reset-some st card c e)) w
 
 -- THE SUMMARY IS THE WALK OF THE BOOK
 pub runs-walked : (cs : List Call) (st : Station) → Runs cs st → Walked st
 runs-walked cs st fresh = fresh-walked
-runs-walked cs st (offering c epoch s ds before r run o) = offer-walked before c epoch s r (runs-walked ds before run) o
-runs-walked cs st (resetting c ds before r run o) = reset-walked before c r (runs-walked ds before run) o
+runs-walked cs st (offering card c epoch s ds before r run o) = offer-walked before card c epoch s r (runs-walked ds before run) o
+runs-walked cs st (resetting card c ds before r run o) = reset-walked before card c r (runs-walked ds before run) o

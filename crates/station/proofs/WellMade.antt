@@ -49,31 +49,31 @@ put-made st c row b z w there l f =
         rw (eqb-true k c q) (ap (λ (x : Row). length (x .strings)) (getD-set-same (st .rows) c row noRow (omega (arith, there, w .rows))) ∙ l)
     by k d false q = ap (λ (x : Row). length (x .strings)) (getD-set-other (st .rows) c k row noRow (eqb-false k c q)) ∙ w .strings k d
 
-pub offer-made : (st : Station) (c epoch : ℕ) (s : List ℕ) (r : Stepped) → WellMade st → OffersTo st c epoch s r → WellMade (r .station)
-offer-made st c epoch s r w o = by (isServed c) refl
+pub offer-made : (st : Station) (card c epoch : ℕ) (s : List ℕ) (r : Stepped) → WellMade st → OffersTo st card c epoch s r → WellMade (r .station)
+offer-made st card c epoch s r w o = by (isServed card c) refl
   where
     book : (t : Bool) → Full (pick t (brought (st .book) (showsOf (frameOf (offeredRow (rowAt st c) epoch s)))) (st .book))
     book true = brought-full (showsOf (frameOf (offeredRow (rowAt st c) epoch s))) (st .book) (w .entries)
     book false = w .entries
 
-    by : (t : Bool) → isServed c ≡ t → WellMade (r .station)
-    by false e = subst WellMade (sym (o .station ∙ after-none st c epoch s e)) w
+    by : (t : Bool) → isServed card c ≡ t → WellMade (r .station)
+    by false e = subst WellMade (sym (o .station ∙ after-none st card c epoch s e)) w
     by true e =
-        subst WellMade (sym (o .station ∙ after-some st c epoch s e))
-        (put-made st c (offeredRow (rowAt st c) epoch s) (bookAfter (st .book) (rowAt st c) epoch s) (summaryAfter (st .summary) (st .book) (rowAt st c) epoch s) w (served-below c e)
-        (offered-long (rowAt st c) epoch s (w .strings c (served-below c e)))
+        subst WellMade (sym (o .station ∙ after-some st card c epoch s e))
+        (put-made st c (offeredRow (rowAt st c) epoch s) (bookAfter (st .book) (rowAt st c) epoch s) (summaryAfter (st .summary) (st .book) (rowAt st c) epoch s) w (served-below card c e)
+        (offered-long (rowAt st c) epoch s (w .strings c (served-below card c e)))
         (book (storesIt (frameOf (rowAt st c)) epoch s)))
 
-pub reset-made : (st : Station) (c : ℕ) (r : Emptied) → WellMade st → Resets st c r → WellMade (r .station)
+pub reset-made : (st : Station) (card c : ℕ) (r : Emptied) → WellMade st → Resets st card c r → WellMade (r .station)
 unfolding emptyRow
-reset-made st c r w o = by (isServed c) refl
+reset-made st card c r w o = by (isServed card c) refl
   where
-    by : (t : Bool) → isServed c ≡ t → WellMade (r .station)
-    by false e = subst WellMade (sym (o .station ∙ reset-none st c e)) w
-    by true e = subst WellMade (sym (o .station ∙ reset-some st c e)) (put-made st c emptyRow (st .book) (st .summary) w (served-below c e) (length-replicate {A = ℕ} 165 0) (w .entries))
+    by : (t : Bool) → isServed card c ≡ t → WellMade (r .station)
+    by false e = subst WellMade (sym (o .station ∙ reset-none st card c e)) w
+    by true e = subst WellMade (sym (o .station ∙ reset-some st card c e)) (put-made st c emptyRow (st .book) (st .summary) w (served-below card c e) (length-replicate {A = ℕ} 165 0) (w .entries))
 
 -- so is every station that calls leave
 pub runs-made : (cs : List Call) (st : Station) → Runs cs st → WellMade st
 runs-made cs st fresh = fresh-made
-runs-made cs st (offering c epoch s ds before r run o) = offer-made before c epoch s r (runs-made ds before run) o
-runs-made cs st (resetting c ds before r run o) = reset-made before c r (runs-made ds before run) o
+runs-made cs st (offering card c epoch s ds before r run o) = offer-made before card c epoch s r (runs-made ds before run) o
+runs-made cs st (resetting card c ds before r run o) = reset-made before card c r (runs-made ds before run) o

@@ -1,7 +1,7 @@
 -- The client's first demand: of every call, every input and any station.
 -- Assumes nothing.
 use Prim.Native.Nat.{ℕ, _<_}
-use mathlib.Core.List.{List}
+use mathlib.Core.List.{List, [], _∷_}
 use mathlib.Core.Path.{_≡_}
 use lib.ListN.{length}
 use Rattle.strings.specs.declared.Refusal.{Refusal}
@@ -19,7 +19,6 @@ use Rattle.records.specs.declared.named.Record.{Record}
 use Rattle.words.specs.declared.reading.Reading.{Reading}
 use Rattle.words.specs.Calls.{readTests, readingPaper, Reads, writeTests, Writes}
 use Rattle.book.specs.Book.{slots}
-use Rattle.summary.specs.declared.Summary.{Summary}
 use Rattle.channel.specs.Offers.{answerPaper, OnlyCounted}
 use Rattle.station.specs.declared.Station.{Station}
 use Rattle.station.specs.declared.Stepped.{Stepped}
@@ -27,9 +26,10 @@ use Rattle.station.specs.declared.Emptied.{Emptied}
 use Rattle.station.specs.declared.RecordFound.{RecordFound}
 use Rattle.station.specs.declared.EntryFound.{EntryFound}
 use Rattle.station.specs.declared.TalliesFound.{TalliesFound}
+use Rattle.station.specs.declared.SummaryFound.{SummaryFound}
 use Rattle.station.specs.declared.HealthFound.{HealthFound}
-use Rattle.station.specs.Station.{channels, rowAt, gateTests, stationTests, OffersTo, Resets}
-use Rattle.station.specs.Queries.{recordTests, recordPaper, FindsRecord, entryTests, entryPaper, FindsEntry, talliesPaper, FindsTallies, FindsSummary, healthPaper, FindsHealth}
+use Rattle.station.specs.Station.{channels, rowAt, cardTest, gateTests, stationTests, OffersTo, Resets}
+use Rattle.station.specs.Queries.{recordTests, recordPaper, FindsRecord, entryTests, entryPaper, FindsEntry, talliesPaper, FindsTallies, summaryPaper, FindsSummary, healthPaper, FindsHealth}
 
 -- ---- "Every call answers, for every input and every station it is handed"
 -- a call's relation holds of one answer, and of no second
@@ -40,13 +40,13 @@ pub record OneAnswer (A : Type 0) (Fits : A → Type 0) : Type 0 where
 
 -- the calls on a station, whatever its fields say; an answer has the whole station after it
 pub record StationAnswers (st : Station) : Type 0 where
-  pub offer : (c epoch : ℕ) (s : List ℕ) → OneAnswer Stepped (OffersTo st c epoch s)
-  pub reset : (c : ℕ) → OneAnswer Emptied (Resets st c)
-  pub immediate-of : (c : ℕ) → OneAnswer RecordFound (FindsRecord st c)
-  pub entry-of : (slot : ℕ) → OneAnswer EntryFound (FindsEntry st slot)
-  pub tallies-of : (c : ℕ) → OneAnswer TalliesFound (FindsTallies st c)
-  pub summary-of : OneAnswer Summary (FindsSummary st)
-  pub health-of : (c : ℕ) → OneAnswer HealthFound (FindsHealth st c)
+  pub offer : (card c epoch : ℕ) (s : List ℕ) → OneAnswer Stepped (OffersTo st card c epoch s)
+  pub reset : (card c : ℕ) → OneAnswer Emptied (Resets st card c)
+  pub immediate-of : (card c : ℕ) → OneAnswer RecordFound (FindsRecord st card c)
+  pub entry-of : (card slot : ℕ) → OneAnswer EntryFound (FindsEntry st card slot)
+  pub tallies-of : (card c : ℕ) → OneAnswer TalliesFound (FindsTallies st card c)
+  pub summary-of : (card : ℕ) → OneAnswer SummaryFound (FindsSummary st card)
+  pub health-of : (card c : ℕ) → OneAnswer HealthFound (FindsHealth st card c)
 
 -- the calls on strings and records: the answer, and the bytes that are left in an output
 pub record StringsAnswer : Type 0 where
@@ -58,12 +58,13 @@ pub record StringsAnswer : Type 0 where
 
 -- ---- "Bad input is refused with the number in our paper": "The first that fits is given, and given only then"
 pub record StationNumbers (st : Station) : Type 0 where
-  pub offer : (c epoch : ℕ) (s : List ℕ) (r : Stepped) → OffersTo st c epoch s r → Exactly (stationTests st c epoch s) (answerPaper (r .answer))
-  pub reset : (c : ℕ) (r : Emptied) → Resets st c r → Exactly (gateTests c) (writtenPaper (r .answer))
-  pub immediate-of : (c : ℕ) (r : RecordFound) → FindsRecord st c r → Exactly (recordTests st c) (recordPaper r)
-  pub entry-of : (slot : ℕ) (r : EntryFound) → FindsEntry st slot r → Exactly (entryTests st slot) (entryPaper r)
-  pub tallies-of : (c : ℕ) (r : TalliesFound) → FindsTallies st c r → Exactly (gateTests c) (talliesPaper r)
-  pub health-of : (c : ℕ) (r : HealthFound) → FindsHealth st c r → Exactly (gateTests c) (healthPaper r)
+  pub offer : (card c epoch : ℕ) (s : List ℕ) (r : Stepped) → OffersTo st card c epoch s r → Exactly (stationTests st card c epoch s) (answerPaper (r .answer))
+  pub reset : (card c : ℕ) (r : Emptied) → Resets st card c r → Exactly (gateTests card c) (writtenPaper (r .answer))
+  pub immediate-of : (card c : ℕ) (r : RecordFound) → FindsRecord st card c r → Exactly (recordTests st card c) (recordPaper r)
+  pub entry-of : (card slot : ℕ) (r : EntryFound) → FindsEntry st card slot r → Exactly (entryTests st card slot) (entryPaper r)
+  pub tallies-of : (card c : ℕ) (r : TalliesFound) → FindsTallies st card c r → Exactly (gateTests card c) (talliesPaper r)
+  pub summary-of : (card : ℕ) (r : SummaryFound) → FindsSummary st card r → Exactly (cardTest card ∷ []) (summaryPaper r)
+  pub health-of : (card c : ℕ) (r : HealthFound) → FindsHealth st card c r → Exactly (gateTests card c) (healthPaper r)
 
 pub record StringNumbers : Type 0 where
   pub check : (s out : List ℕ) (r : Checked) (out′ : List ℕ) → Checks s out r out′ → Exactly (checkTests s out) (checkedPaper r)
@@ -86,10 +87,10 @@ pub record RefusalLeaves (st : Station) (c number : ℕ) (st′ : Station) : Typ
   pub others : (k : ℕ) → (k ≡ c → ⊥) → rowAt st′ k ≡ rowAt st k
   pub own : OnlyCounted number (rowAt st c) (rowAt st′ c)
 
--- "CHANNEL changes nothing at all": rows, book and summary
-pub record ChannelLeaves (st : Station) (c : ℕ) : Type 0 where
-  pub offers : (epoch : ℕ) (s : List ℕ) (r : Stepped) → OffersTo st c epoch s r → r .station ≡ st
-  pub resets : (r : Emptied) → Resets st c r → r .station ≡ st
+-- "CHANNEL changes nothing at all", nor do OWNER and CARD: rows, book and summary
+pub record ShutLeaves (st : Station) (card c : ℕ) : Type 0 where
+  pub offers : (epoch : ℕ) (s : List ℕ) (r : Stepped) → OffersTo st card c epoch s r → r .station ≡ st
+  pub resets : (r : Emptied) → Resets st card c r → r .station ≡ st
 
 -- ---- "and no output byte": whatever the number, the output is as it was handed over
 pub record NoOutputByte : Type 0 where

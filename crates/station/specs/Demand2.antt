@@ -22,8 +22,8 @@ use Rattle.station.specs.Said.{Said}
 -- ---- from the answers
 -- what the offers to a channel since its reset were answered, the latest first
 abbrev pub sinceReset : ℕ → Call → List ℕ → List (List ℕ) → List (List ℕ)
-sinceReset c (Offer k epoch s) answer before = pick (isOn c (Offer k epoch s)) (answer ∷ before) before
-sinceReset c (Reset k) answer before = pick (isOn c (Reset k)) [] before
+sinceReset c (Offer card k epoch s) answer before = pick (isOn c (Offer card k epoch s)) (answer ∷ before) before
+sinceReset c (Reset card k) answer before = pick (isOn c (Reset card k)) [] before
 
 unfoldable pub answersSince : ℕ → List Said → List (List ℕ)
 answersSince c [] = []

@@ -19,8 +19,8 @@ use Rattle.station.specs.Said.{Said, RunsFrom, callsOf, answersOn}
 
 -- ---- the calls determine the answers: "an offer is tested in the order 1 to 9", and a reset by 1
 pub record Answered (cs : List Call) (st : Station) : Type 0 where
-  pub offers : (c epoch : ℕ) (s : List ℕ) (r : Stepped) → OffersTo st c epoch s r → answerPaper (r .answer) ≡ saidAfter cs (Offer c epoch s)
-  pub resets : (c : ℕ) (r : Emptied) → Resets st c r → writtenPaper (r .answer) ≡ saidAfter cs (Reset c)
+  pub offers : (card c epoch : ℕ) (s : List ℕ) (r : Stepped) → OffersTo st card c epoch s r → answerPaper (r .answer) ≡ saidAfter cs (Offer card c epoch s)
+  pub resets : (card c : ℕ) (r : Emptied) → Resets st card c r → writtenPaper (r .answer) ≡ saidAfter cs (Reset card c)
 
 -- ---- "Exchange two neighbouring calls on different channels: each call's answer and the whole station afterwards are unchanged". The calls were
 -- `earlier`, then y, then x, then `later`, and left st
@@ -33,11 +33,11 @@ pub record Exchanged (later earlier : List Said) (x y : Said) (st : Station) : T
 
 -- ---- so any reordering that keeps each channel's own order leaves the same station, and the calls on each channel gave the same answers
 abbrev pub SameCalls : List Call → List Call → Type 0
-SameCalls cs ds = (c : ℕ) → isServed c ≡ true → callsOn c cs ≡ callsOn c ds
+SameCalls cs ds = (card c : ℕ) → isServed card c ≡ true → callsOn c cs ≡ callsOn c ds
 
 pub record Reordered (all other : List Said) (st st′ : Station) : Type 0 where
   pub station : st ≡ st′
-  pub answers : (c : ℕ) → isServed c ≡ true → answersOn c all ≡ answersOn c other
+  pub answers : (card c : ℕ) → isServed card c ≡ true → answersOn c all ≡ answersOn c other
 
 -- and two stations on one antenna, each with its own calls, hold the same book where they were shown the same entries
 abbrev pub SameShown : List Call → List Call → Type 0

@@ -21,7 +21,7 @@ use Rattle.station.specs.Station.{freshStation, rowAt, isServed, OffersT
 use Rattle.station.specs.Queries.{keptAt, allCounts, healthBy}
 use Rattle.station.specs.History.{Call, channelOf, Runs, stationOf}
 use Rattle.station.specs.Said.{Said, RunsFrom, callsOf, Ran}
-use Rattle.station.specs.Demand1.{OneAnswer, StationAnswers, StringsAnswer, StationNumbers, StringNumbers, WellMade, RefusalLeaves, ChannelLeaves, NoOutputByte}
+use Rattle.station.specs.Demand1.{OneAnswer, StationAnswers, StringsAnswer, StationNumbers, StringNumbers, WellMade, RefusalLeaves, ShutLeaves, NoOutputByte}
 use Rattle.station.specs.Strings.{Checking, CheckedAgain, Encoding, Relative}
 use Rattle.station.specs.Words.{ByName, RoundTrips, Ranges}
 use Rattle.station.specs.Sent.{SentString, HeardAsSent}
@@ -29,6 +29,7 @@ use Rattle.station.specs.EitherWay.{EitherWay, EveryHistoryAlike}
 use Rattle.station.specs.Demand2.{Tallied, Counted}
 use Rattle.station.specs.Demand3.{Answered, Exchanged, SameCalls, Reordered, SameShown, SameBooks, BookRule}
 use Rattle.station.specs.Summary.{SummaryRule}
+use Rattle.station.specs.Isolation.{AgreeFor, OthersLeave, AnsweredAlike, EveryIsolated}
 use Rattle.station.specs.Relock.{EveryBeat, Relocked}
 use Rattle.station.specs.Health.{HealthIn, ReservedBit, NeverUsable, RulesDiffer}
 
@@ -43,10 +44,10 @@ pub record AllDemands : Type 0 where
   -- where three numbers stand for DAMAGED: "What is refused stays as it was"
   pub damaged-exactly : (n : ℕ) → DamagedExactly n
   -- "a refused string changes nothing but its channel's tallies of strings offered and refused," and "its own cause's tally too"
-  pub refused : (st : Station) (c epoch : ℕ) (s : List ℕ) (r : Stepped) → WellMade st → isServed c ≡ true → OffersTo st c epoch s r
+  pub refused : (st : Station) (card c epoch : ℕ) (s : List ℕ) (r : Stepped) → WellMade st → isServed card c ≡ true → OffersTo st card c epoch s r
       → isTaken (r .answer) ≡ false → RefusalLeaves st c (numberSaid (r .answer)) (r .station)
-  -- "CHANNEL changes nothing at all"
-  pub no-channel : (st : Station) (c : ℕ) → isServed c ≡ false → ChannelLeaves st c
+  -- "CHANNEL changes nothing at all"; 15 OWNER "changes nothing", and 16 CARD "changes nothing either"
+  pub shut-out : (st : Station) (card c : ℕ) → isServed card c ≡ false → ShutLeaves st card c
   -- "and no output byte."
   pub no-output-byte : NoOutputByte
   -- ==== 2. "Strings are checked, repaired,"
@@ -55,9 +56,9 @@ pub record AllDemands : Type 0 where
   pub encoding : (n : ℕ) → n < 2 ^ 85 → Encoding n
   pub relative : Relative
   -- and so at the station: "single flips repaired, pairs refused, clean strings taken"
-  pub sent : (st : Station) (c epoch n : ℕ) → SentString n → HeardAsSent st c epoch n
+  pub sent : (st : Station) (card c epoch n : ℕ) → SentString n → HeardAsSent st card c epoch n
   -- "A string and its inverse now answer alike except in this field, and demand 2 is read so": of every station, and over any calls
-  pub either-way : (st : Station) (c epoch : ℕ) → EitherWay st c epoch
+  pub either-way : (st : Station) (card c epoch : ℕ) → EitherWay st card c epoch
   pub histories-alike : EveryHistoryAlike
   -- "read and written as GLONASS ICD 5.0 says, sign bits and layouts included."
   pub by-name : ByName
@@ -67,14 +68,14 @@ pub record AllDemands : Type 0 where
   pub round-trips : RoundTrips
   -- "The four tallies are the true counts since the channel's reset", "32 bits wide and stay at 4,294,967,295"; and "one such tally for each refusal that
   -- an offer on a valid channel can get"
-  pub tallies : (all : List Said) (st : Station) → RunsFrom freshStation all st → (c : ℕ) → isServed c ≡ true → Tallied all st c
-  pub counts : (cs : List Call) (st : Station) → Runs cs st → (c : ℕ) → isServed c ≡ true → Counted cs st c
+  pub tallies : (all : List Said) (st : Station) → RunsFrom freshStation all st → (card c : ℕ) → isServed card c ≡ true → Tallied all st c
+  pub counts : (cs : List Call) (st : Station) → Runs cs st → (card c : ℕ) → isServed card c ≡ true → Counted cs st c
   -- of every station: a taken offer moves no cause, and a reset leaves all fourteen at 0
-  pub taken-counts : (st : Station) (c epoch : ℕ) (s : List ℕ) (r : Stepped) → WellMade st → isServed c ≡ true → OffersTo st c epoch s r
+  pub taken-counts : (st : Station) (card c epoch : ℕ) (s : List ℕ) (r : Stepped) → WellMade st → isServed card c ≡ true → OffersTo st card c epoch s r
       → isTaken (r .answer) ≡ true → TakenCounted (r .answer) (rowAt st c .tallies) (rowAt (r .station) c .tallies)
-  pub reset-counts : (st : Station) (c : ℕ) (r : Emptied) → WellMade st → isServed c ≡ true → Resets st c r
+  pub reset-counts : (st : Station) (card c : ℕ) (r : Emptied) → WellMade st → isServed card c ≡ true → Resets st card c r
       → allCounts (rowAt (r .station) c .tallies) ≡ replicate 14 0
-  -- ==== 3. "Start with a fresh station and make any calls that offer a string to, or reset, one of channels 0 to 23."
+  -- ==== 3. "Start with a fresh station and make any calls that offer a string to, or reset, one of channels 0 to 23.": of the 48 of both cards
   -- whatever the station and the calls, they can be made; a run with its answers is a run of its calls, which leave one station; it is well made; and
   -- the calls before determine each answer
   pub every-run : (st : Station) (cs : List Call) → Ran st cs
@@ -96,13 +97,18 @@ pub record AllDemands : Type 0 where
   -- ==== request 5: "The summary must equal what the full walk gives, for every station reached from a fresh one. The exchange rule of demand 3 covers the
   -- summary too.": as part of the whole station it is in `exchange` and `reordering`
   pub summary : (cs : List Call) (st : Station) → Runs cs st → SummaryRule cs st
+  -- ==== request 10: "A card reaches its own rows and the book with its summary. Whatever one card offers or resets, the other's row answers, refusals,
+  -- records and tallies are the same": another card's call leaves a card's rows; its own calls are answered by its own rows; and so over any calls
+  pub others-leave : (card : ℕ) (st : Station) → OthersLeave card st
+  pub answered-alike : (card : ℕ) (st st′ : Station) → WellMade st → WellMade st′ → AgreeFor card st st′ → AnsweredAlike card st st′
+  pub isolated : EveryIsolated
   -- ==== the paper: "After a string is taken at epoch e, frames at a steady 15-epoch beat are heard again"
   pub every-beat : EveryBeat
-  pub relock : (st : Station) (c : ℕ) (taken : Heard) (r : Stepped) → WellMade st → isServed c ≡ true
-      → OffersTo st c (taken .epoch) (taken .bytes) r → isTaken (r .answer) ≡ true
-      → (f : ℕ) → FirstOf15 (rowAt (r .station) c .start) f → Relocked c f taken (r .station)
+  pub relock : (st : Station) (card c : ℕ) (taken : Heard) (r : Stepped) → WellMade st → isServed card c ≡ true
+      → OffersTo st card c (taken .epoch) (taken .bytes) r → isTaken (r .answer) ≡ true
+      → (f : ℕ) → FirstOf15 (rowAt (r .station) c .start) f → Relocked card c f taken (r .station)
   -- "Without a record, or without a book entry for its n, a channel's satellite is unknown. Otherwise it is usable if .."
-  pub health : (cs : List Call) (st : Station) → Runs cs st → (c : ℕ) → isServed c ≡ true → HealthIn cs c (healthBy (keptAt st c) (st .book))
+  pub health : (cs : List Call) (st : Station) → Runs cs st → (card c : ℕ) → isServed card c ≡ true → HealthIn cs c (healthBy (keptAt st c) (st .book))
   -- "With M = 00, bit 65 of string 3 is a reserved bit and plays no part in health"; with any other M "usable only if .. l of string 3 is 0"; and nothing
   -- else changed: of any kept record and any book
   pub reserved-bit : ReservedBit

@@ -25,22 +25,23 @@ pub record AlikeStepped (r inverted : Stepped) : Type 0 where
   pub station : inverted .station ≡ r .station
 
 -- on every channel number at every epoch
-pub record EitherWay (st : Station) (c epoch : ℕ) : Type 0 where
+pub record EitherWay (st : Station) (card c epoch : ℕ) : Type 0 where
   -- every string of eleven bytes with padding 0
-  pub alike : (x : ℕ) (r inverted : Stepped) → x < 2 ^ 85 → OffersTo st c epoch (stringBytes x) r → OffersTo st c epoch (stringBytes (inverse x)) inverted
+  pub alike : (x : ℕ) (r inverted : Stepped) → x < 2 ^ 85 → OffersTo st card c epoch (stringBytes x) r → OffersTo st card c epoch (stringBytes (inverse x)) inverted
       → AlikeStepped r inverted
   -- bytes of any other shape are SHAPE, whichever way up
-  pub other-shape : (s : List ℕ) (r : Stepped) → isServed c ≡ true → misshapen s ≡ true → OffersTo st c epoch s r → answerPaper (r .answer) ≡ 2 ∷ []
+  pub other-shape : (s : List ℕ) (r : Stepped) → isServed card c ≡ true → misshapen s ≡ true → OffersTo st card c epoch s r → answerPaper (r .answer) ≡ 2 ∷ []
 
 -- ---- calls one after the other
--- a call that offers a string, and the one that offers its inverse to the same channel at the same epoch
+-- a call that offers a string, and the one of the same card that offers its inverse to the same channel at the same epoch
 pub record InverseOffered (call inverted : Call) : Type 0 where
+  pub card : ℕ
   pub channel : ℕ
   pub epoch : ℕ
   pub string : ℕ
   pub small : string < 2 ^ 85
-  pub was : call ≡ Offer channel epoch (stringBytes string)
-  pub is : inverted ≡ Offer channel epoch (stringBytes (inverse string))
+  pub was : call ≡ Offer card channel epoch (stringBytes string)
+  pub is : inverted ≡ Offer card channel epoch (stringBytes (inverse string))
 
 -- alike call by call, but that any of their strings may be inverted
 abbrev pub AlikeCalls : List Call → List Call → Type 0

@@ -1,6 +1,6 @@
--- The calls made on a station since it was fresh, the latest first, and what they determine by the paper's rules alone. Channels are labels: nothing
--- here speaks of a row or a station but `Runs` and `stationOf`, which say what the calls leave one after the other. Any bytes of any length, any epoch,
--- any channel.
+-- The calls made on a station since it was fresh, the latest first, and what they determine by the paper's rules alone. Cards and channels are
+-- labels: nothing here speaks of a row or a station but `Runs` and `stationOf`, which say what the calls leave one after the other. Any bytes of any length,
+-- any epoch, any card, any channel.
 -- Assumes nothing.
 use Prim.Native.Nat.{ℕ}
 use mathlib.Core.Bool.{Bool, true, false, _&&_}
@@ -18,26 +18,31 @@ use Rattle.station.specs.declared.Emptied.{Emptied}
 use Rattle.station.specs.Station.{freshStation, isServed, shutSays, stationAfter, OffersTo, stationReset, Resets}
 
 pub data Call : Type 0 where
-  Offer : (channel epoch : ℕ) → (bytes : List ℕ) → Call
-  Reset : (channel : ℕ) → Call
+  Offer : (card channel epoch : ℕ) → (bytes : List ℕ) → Call
+  Reset : (card channel : ℕ) → Call
+
+-- the card that asks, and the channel that it names
+abbrev pub cardOf : Call → ℕ
+cardOf (Offer card c epoch s) = card
+cardOf (Reset card c) = card
 
 abbrev pub channelOf : Call → ℕ
-channelOf (Offer c epoch s) = c
-channelOf (Reset c) = c
+channelOf (Offer card c epoch s) = c
+channelOf (Reset card c) = c
 
--- a call without its label
+-- a call without its labels
 abbrev pub itself : Call → OnChannel
-itself (Offer c epoch s) = OfferIt epoch s
-itself (Reset c) = ResetIt
+itself (Offer card c epoch s) = OfferIt epoch s
+itself (Reset card c) = ResetIt
 
 -- whether it is let in, and what it is told where it is not
 abbrev pub isLetIn : Call → Bool
-isLetIn call = isServed (channelOf call)
+isLetIn call = isServed (cardOf call) (channelOf call)
 
 abbrev pub shutSaid : Call → List ℕ
-shutSaid call = shutSays (channelOf call)
+shutSaid call = shutSays (cardOf call) (channelOf call)
 
--- the calls on one channel: those that are served on it. A call that is not let in is on none
+-- the calls on one channel: those that are served on it, so of its own card. A call that is not let in is on none
 abbrev pub isOn : ℕ → Call → Bool
 isOn c call = isLetIn call && eqb (channelOf call) c
 
@@ -65,8 +70,9 @@ pairs = 6 ∷ 8 ∷ 10 ∷ 12 ∷ 14 ∷ []
 
 -- an entry shown for a slot: at a moment, by a channel, as strings 5, p and p+1 of the one frame that this channel then held
 pub record ShownIn (cs : List Call) (slot : ℕ) (t : Three) : Type 0 where
+  pub card : ℕ
   pub channel : ℕ
-  pub served : isServed channel ≡ true
+  pub served : isServed card channel ≡ true
   pub moment : List OnChannel
   pub within : Part moment (callsOn channel cs)
   pub pair : ℕ
@@ -81,12 +87,12 @@ pub record Greatest (cs : List Call) (slot : ℕ) (t : Three) : Type 0 where
 -- ---- the station that the calls leave, one after the other: each leaves what its contract says
 pub data Runs : List Call → Station → Type 0 where
   fresh : Runs [] freshStation
-  offering : (c epoch : ℕ) (s : List ℕ) (cs : List Call) (st : Station) (r : Stepped) → Runs cs st → OffersTo st c epoch s r
-      → Runs (Offer c epoch s ∷ cs) (r .station)
-  resetting : (c : ℕ) (cs : List Call) (st : Station) (r : Emptied) → Runs cs st → Resets st c r → Runs (Reset c ∷ cs) (r .station)
+  offering : (card c epoch : ℕ) (s : List ℕ) (cs : List Call) (st : Station) (r : Stepped) → Runs cs st → OffersTo st card c epoch s r
+      → Runs (Offer card c epoch s ∷ cs) (r .station)
+  resetting : (card c : ℕ) (cs : List Call) (st : Station) (r : Emptied) → Runs cs st → Resets st card c r → Runs (Reset card c ∷ cs) (r .station)
 
 -- the same as a function: the station that the calls leave
 unfoldable pub stationOf : List Call → Station
 stationOf [] = freshStation
-stationOf (Offer c epoch s ∷ cs) = stationAfter (stationOf cs) c epoch s
-stationOf (Reset c ∷ cs) = stationReset (stationOf cs) c
+stationOf (Offer card c epoch s ∷ cs) = stationAfter (stationOf cs) card c epoch s
+stationOf (Reset card c ∷ cs) = stationReset (stationOf cs) card c

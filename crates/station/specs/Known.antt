@@ -5,7 +5,7 @@ use Prim.Native.Nat.{ℕ, _+_, _^_}
 use mathlib.Core.Bool.{Bool, true, false, not, _&&_, true≢false}
 use mathlib.Core.List.{[], _∷_}
 use mathlib.Core.Path.{_≡_, refl, sym}
-use lib.Dec.{ltb}
+use lib.Dec.{eqb, ltb}
 use lib.IntN.{pos, negsuc}
 use Rattle.strings.specs.declared.Verdict.the-variants.{Clean, Repaired}
 use Rattle.strings.specs.declared.hamming.Damage.the-variants.{Unplaced, Even, Outside}
@@ -28,7 +28,7 @@ use Rattle.words.specs.Known.{known as words-known}
 use Rattle.book.specs.Shows.{dayOf}
 use Rattle.book.specs.Known.{known as days-known}
 use Rattle.channel.specs.Offers.{offerTests}
-use Rattle.station.specs.Station.{lastChannel, freshStation, heldAt, isServed, stationTests, toldIn}
+use Rattle.station.specs.Station.{lastChannel, ownerOf, freshStation, heldAt, isCard, isServed, stationTests, toldIn}
 
 pub record KnownStrings : Type 0 where
   -- "A: m = 1, data zero, encoded: bits 81, 8, 7, 5 set; 08 00 00 00 00 00 00 00 00 06 80. Clean."
@@ -64,7 +64,7 @@ pub record KnownStrings : Type 0 where
   -- "Eleven zero bytes: clean, then NUMBER": by the check, then by the reader whatever kind is asked, and on any channel of a fresh station at any epoch
   pub zeros-clean : ruling (numberOf zeros) ≡ Sound Clean
   pub zeros-number : (k : Kind) → firstOf (readTests zeros k) ≡ 5
-  pub zeros-offered : (c epoch : ℕ) → isServed c ≡ true → answerOf (stationTests freshStation c epoch zeros) (toldIn freshStation c epoch zeros) ≡ 5 ∷ []
+  pub zeros-offered : (card c epoch : ℕ) → isServed card c ≡ true → answerOf (stationTests freshStation card c epoch zeros) (toldIn freshStation c epoch zeros) ≡ 5 ∷ []
   -- "Five signed bits 10000, 10001, 11111, 01111: 0, -1, -15, 15.": in the x acceleration, the fourth word of string 1
   pub minus-zero : valueIn (wordAt One 3) 0b10000 ≡ pos 0
   pub minus-one : valueIn (wordAt One 3) 0b10001 ≡ negsuc 0
@@ -80,13 +80,16 @@ pub record KnownStrings : Type 0 where
   pub next-day : dayOf 7 1 ≡ 8767
 
 -- the row that no lower table has
-zeros-offered-so : (c epoch : ℕ) → isServed c ≡ true → answerOf (stationTests freshStation c epoch zeros) (toldIn freshStation c epoch zeros) ≡ 5 ∷ []
+zeros-offered-so : (card c epoch : ℕ) → isServed card c ≡ true → answerOf (stationTests freshStation card c epoch zeros) (toldIn freshStation c epoch zeros) ≡ 5 ∷ []
 unfolding isServed soundTests numberOf paddingOf misshapen wordOf readRelative position sumC sumAll syndrome sumsSet highest placed judge ruling mended
-zeros-offered-so c epoch served = by (ltb lastChannel c) served
+zeros-offered-so card c epoch served = by (not (isCard card)) (ltb lastChannel c) (not (eqb (ownerOf c) card)) served
   where
-    by : (t : Bool) → (not t && true) ≡ true → answerOf (test 1 t ∷ offerTests (heldAt freshStation c) epoch zeros) (toldIn freshStation c epoch zeros) ≡ 5 ∷ []
-    by true e = absurd (true≢false (sym e))
-    by false e = refl
+    by : (t u v : Bool) → (not t && (not u && (not v && true))) ≡ true
+        → answerOf (test 16 t ∷ test 1 u ∷ test 15 v ∷ offerTests (heldAt freshStation c) epoch zeros) (toldIn freshStation c epoch zeros) ≡ 5 ∷ []
+    by true u v e = absurd (true≢false (sym e))
+    by false true v e = absurd (true≢false (sym e))
+    by false false true e = absurd (true≢false (sym e))
+    by false false false e = refl
 
 pub known-strings : KnownStrings
 known-strings =

@@ -15,5 +15,6 @@ pub mod Demand3
 pub mod Relock
 pub mod Health
 pub mod Summary
+pub mod Isolation
 pub mod Demands
 pub mod Known

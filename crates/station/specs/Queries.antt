@@ -1,4 +1,5 @@
--- What a station answers when it is asked (the paper: "Queries: 1 or 14, then 13", and "Health"; request 5).
+-- What a station answers when it is asked (the paper: "Queries: 1 or 14, then 13", and "Health"; requests 5 and 10): "Every
+-- offer, reset, query and block names the asking card".
 -- Assumes nothing.
 use Prim.Native.Nat.{ℕ, _*_, _^_}
 use mathlib.Core.Bool.{Bool, not, _&&_}
@@ -30,26 +31,28 @@ use Rattle.station.specs.declared.TalliesFound.{TalliesFound}
 use Rattle.station.specs.declared.TalliesFound.the-variants.{Found as FoundTallies, Refused as NoTallies}
 use Rattle.station.specs.declared.HealthFound.{HealthFound}
 use Rattle.station.specs.declared.HealthFound.the-variants.{Found as FoundHealth, Refused as NoHealth}
-use Rattle.station.specs.Station.{rowAt, gateTests}
+use Rattle.station.specs.declared.SummaryFound.{SummaryFound}
+use Rattle.station.specs.declared.SummaryFound.the-variants.{Found as FoundSummary, Refused as NoSummary}
+use Rattle.station.specs.Station.{rowAt, cardTest, gateTests}
 
--- ---- the immediate record: 1, 13
+-- ---- the immediate record: the gate, 13
 abbrev pub keptAt : Station → ℕ → Immediate
 keptAt st c = rowAt st c .immediate
 
 -- NOTHING: "record or entry asked for is absent"
-abbrev pub recordTests : Station → ℕ → List Test
-recordTests st c = gateTests c ++ (test 13 (not (hasRecord (keptAt st c))) ∷ [])
+abbrev pub recordTests : Station → ℕ → ℕ → List Test
+recordTests st card c = gateTests card c ++ (test 13 (not (hasRecord (keptAt st c))) ∷ [])
 
 abbrev pub recordPaper : RecordFound → List ℕ
 recordPaper (FoundRecord w) = 0 ∷ []
 recordPaper (NoRecord q) = refusalPaper q
 
 -- and where it is there, its words
-pub record FindsRecord (st : Station) (c : ℕ) (r : RecordFound) : Type 0 where
-  pub answer : recordPaper r ≡ answerOf (recordTests st c) []
+pub record FindsRecord (st : Station) (card c : ℕ) (r : RecordFound) : Type 0 where
+  pub answer : recordPaper r ≡ answerOf (recordTests st card c) []
   pub words : (w : ImmediateWords) → r ≡ FoundRecord w → w ≡ immediateOf (keptAt st c .strings)
 
--- ---- an entry: 14, 13
+-- ---- an entry: 16, 14, 13. A card reaches "the book with its summary", whichever card brought the entry
 -- SLOT: "slot not 1..24"
 abbrev pub isSlot : ℕ → Bool
 isSlot k = leb 1 k && leb k slots
@@ -58,8 +61,8 @@ isSlot k = leb 1 k && leb k slots
 abbrev pub isEmpty : Book → ℕ → Bool
 isEmpty b k = eqb (inSlot b k .day) 0
 
-abbrev pub entryTests : Station → ℕ → List Test
-entryTests st k = test 14 (not (isSlot k)) ∷ test 13 (isEmpty (st .book) k) ∷ []
+abbrev pub entryTests : Station → ℕ → ℕ → List Test
+entryTests st card k = cardTest card ∷ test 14 (not (isSlot k)) ∷ test 13 (isEmpty (st .book) k) ∷ []
 
 -- an entry in three numbers: its day, the even string's bits 80..9 and the odd string's bits 80..10
 abbrev pub threeNumbers : Three → List ℕ
@@ -69,11 +72,11 @@ abbrev pub entryPaper : EntryFound → List ℕ
 entryPaper (FoundEntry e) = 0 ∷ threeNumbers (meaning e)
 entryPaper (NoEntry q) = refusalPaper q
 
-pub record FindsEntry (st : Station) (k : ℕ) (r : EntryFound) : Type 0 where
-  pub answer : entryPaper r ≡ answerOf (entryTests st k) (threeNumbers (meaning (inSlot (st .book) k)))
+pub record FindsEntry (st : Station) (card k : ℕ) (r : EntryFound) : Type 0 where
+  pub answer : entryPaper r ≡ answerOf (entryTests st card k) (threeNumbers (meaning (inSlot (st .book) k)))
   pub entry : (e : Entry) → r ≡ FoundEntry e → e ≡ inSlot (st .book) k
 
--- ---- the tallies: 1
+-- ---- the tallies: the gate
 -- the four, and those of the causes in the order of the tests
 abbrev pub allCounts : Tallies → List ℕ
 allCounts t = t .offered ∷ t .clean ∷ t .repaired ∷ t .refused ∷ map (causeOf t) causes
@@ -82,14 +85,21 @@ abbrev pub talliesPaper : TalliesFound → List ℕ
 talliesPaper (FoundTallies t) = 0 ∷ allCounts t
 talliesPaper (NoTallies q) = refusalPaper q
 
-unfoldable pub FindsTallies : Station → ℕ → TalliesFound → Type 0
-FindsTallies st c r = talliesPaper r ≡ answerOf (gateTests c) (allCounts (rowAt st c .tallies))
+unfoldable pub FindsTallies : Station → ℕ → ℕ → TalliesFound → Type 0
+FindsTallies st card c r = talliesPaper r ≡ answerOf (gateTests card c) (allCounts (rowAt st c .tallies))
 
--- ---- the summary, which is never refused: "how many slots are filled, the oldest day and the newest", as the station keeps it
-abbrev pub FindsSummary : Station → Summary → Type 0
-FindsSummary st r = r ≡ st .summary
+-- ---- the summary: 16. "how many slots are filled, the oldest day and the newest", as the station keeps it
+abbrev pub summaryNumbers : Summary → List ℕ
+summaryNumbers s = s .count ∷ s .oldest ∷ s .newest ∷ []
 
--- ---- health: 1
+abbrev pub summaryPaper : SummaryFound → List ℕ
+summaryPaper (FoundSummary s) = 0 ∷ summaryNumbers s
+summaryPaper (NoSummary q) = refusalPaper q
+
+unfoldable pub FindsSummary : Station → ℕ → SummaryFound → Type 0
+FindsSummary st card r = summaryPaper r ≡ answerOf (cardTest card ∷ []) (summaryNumbers (st .summary))
+
+-- ---- health: the gate
 -- "the top bit of B": bit 80 of string 2
 abbrev pub topOfB : Immediate → ℕ
 topOfB i = wordOf (stringAt (i .strings) 1) 80 80
@@ -139,5 +149,5 @@ abbrev pub healthPaper : HealthFound → List ℕ
 healthPaper (FoundHealth h) = 0 ∷ healthNumber h ∷ []
 healthPaper (NoHealth q) = refusalPaper q
 
-unfoldable pub FindsHealth : Station → ℕ → HealthFound → Type 0
-FindsHealth st c r = healthPaper r ≡ answerOf (gateTests c) (healthNumber (healthBy (keptAt st c) (st .book)) ∷ [])
+unfoldable pub FindsHealth : Station → ℕ → ℕ → HealthFound → Type 0
+FindsHealth st card c r = healthPaper r ≡ answerOf (gateTests card c) (healthNumber (healthBy (keptAt st c) (st .book)) ∷ [])

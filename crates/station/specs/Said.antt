@@ -24,10 +24,10 @@ said call answer = record { call = call; answer = answer }
 -- from this station, these calls with these answers lead to that station: each answer, and each station, is one that the contract of its call allows
 pub data RunsFrom (from : Station) : List Said → Station → Type 0 where
   none : RunsFrom from [] from
-  offers : (c epoch : ℕ) (s : List ℕ) (before : List Said) (st : Station) (r : Stepped) → RunsFrom from before st → OffersTo st c epoch s r
-      → RunsFrom from (said (Offer c epoch s) (answerPaper (r .answer)) ∷ before) (r .station)
-  resets : (c : ℕ) (before : List Said) (st : Station) (r : Emptied) → RunsFrom from before st → Resets st c r
-      → RunsFrom from (said (Reset c) (writtenPaper (r .answer)) ∷ before) (r .station)
+  offers : (card c epoch : ℕ) (s : List ℕ) (before : List Said) (st : Station) (r : Stepped) → RunsFrom from before st → OffersTo st card c epoch s r
+      → RunsFrom from (said (Offer card c epoch s) (answerPaper (r .answer)) ∷ before) (r .station)
+  resets : (card c : ℕ) (before : List Said) (st : Station) (r : Emptied) → RunsFrom from before st → Resets st card c r
+      → RunsFrom from (said (Reset card c) (writtenPaper (r .answer)) ∷ before) (r .station)
 
 -- the calls alone
 abbrev pub callsOf : List Said → List Call

@@ -47,8 +47,8 @@ abbrev pub IsBit : ℕ → Type 0
 IsBit i = (1 ≤ i) × (i ≤ 84)
 
 -- ---- where it is offered: on one of the channels, none of whose fifteen strings is present, and not before its frame can have begun
-pub record Awaits (st : Station) (c epoch n : ℕ) : Type 0 where
-  pub served : isServed c ≡ true
+pub record Awaits (st : Station) (card c epoch n : ℕ) : Type 0 where
+  pub served : isServed card c ≡ true
   pub no-frame : rowAt st c .present % 2 ^ 15 ≡ 0
   pub numbered : 1 ≤ mOf n
   pub not-early : mOf n - 1 ≤ epoch
@@ -75,33 +75,33 @@ pub record SameButVerdict (before : Station) (c : ℕ) (clean repaired : Station
   pub repaired-not : talliesAt repaired c .clean ≡ talliesAt before c .clean
 
 -- ---- all of it, whole: proved as `heard-as-sent`
-pub record HeardAsSent (st : Station) (c epoch n : ℕ) : Type 0 where
+pub record HeardAsSent (st : Station) (card c epoch n : ℕ) : Type 0 where
   -- taken, m, clean, kept, and the polarity
-  pub clean : (s : List ℕ) (p : ℕ) (r : Stepped) → Awaits st c epoch n → SentWith n s p → OffersTo st c epoch s r
+  pub clean : (s : List ℕ) (p : ℕ) (r : Stepped) → Awaits st card c epoch n → SentWith n s p → OffersTo st card c epoch s r
       → answerPaper (r .answer) ≡ 0 ∷ mOf n ∷ 0 ∷ 0 ∷ 1 ∷ p ∷ []
   -- "one flip is repaired unless it is bit 8": taken, the m that was sent, repaired with the bit named, kept, and the polarity
-  pub one-flip : (i : ℕ) (s : List ℕ) (p : ℕ) (r : Stepped) → Awaits st c epoch n → IsBit i → (i ≡ 8 → ⊥) → SentWith (flip n i) s p
-      → OffersTo st c epoch s r → answerPaper (r .answer) ≡ 0 ∷ mOf n ∷ 1 ∷ i ∷ 1 ∷ p ∷ []
+  pub one-flip : (i : ℕ) (s : List ℕ) (p : ℕ) (r : Stepped) → Awaits st card c epoch n → IsBit i → (i ≡ 8 → ⊥) → SentWith (flip n i) s p
+      → OffersTo st card c epoch s r → answerPaper (r .answer) ≡ 0 ∷ mOf n ∷ 1 ∷ i ∷ 1 ∷ p ∷ []
   -- and of a station that has its rows it leaves what the string leaves that was sent
-  pub left : (i : ℕ) (s t : List ℕ) (q r : Stepped) → length (st .rows) ≡ channels → Awaits st c epoch n → IsBit i → (i ≡ 8 → ⊥)
-      → SentAs n s → OffersTo st c epoch s q → SentAs (flip n i) t → OffersTo st c epoch t r → SameButVerdict st c (q .station) (r .station)
+  pub left : (i : ℕ) (s t : List ℕ) (q r : Stepped) → length (st .rows) ≡ channels → Awaits st card c epoch n → IsBit i → (i ≡ 8 → ⊥)
+      → SentAs n s → OffersTo st card c epoch s q → SentAs (flip n i) t → OffersTo st card c epoch t r → SameButVerdict st c (q .station) (r .station)
   -- the tallies that are then told: offered, clean, repaired, refused, and the causes
-  pub clean-told : (s : List ℕ) (r : Stepped) (t : TalliesFound) → length (st .rows) ≡ channels → Awaits st c epoch n → SentAs n s → OffersTo st c epoch s r
-      → FindsTallies (r .station) c t
+  pub clean-told : (s : List ℕ) (r : Stepped) (t : TalliesFound) → length (st .rows) ≡ channels → Awaits st card c epoch n → SentAs n s → OffersTo st card c epoch s r
+      → FindsTallies (r .station) card c t
       → talliesPaper t ≡ 0 ∷ oneMore (talliesAt st c .offered) ∷ oneMore (talliesAt st c .clean) ∷ talliesAt st c .repaired ∷ talliesAt st c .refused ∷ map (causeOf (talliesAt st c)) causes
-  pub repaired-told : (i : ℕ) (s : List ℕ) (r : Stepped) (t : TalliesFound) → length (st .rows) ≡ channels → Awaits st c epoch n → IsBit i → (i ≡ 8 → ⊥)
-      → SentAs (flip n i) s → OffersTo st c epoch s r → FindsTallies (r .station) c t
+  pub repaired-told : (i : ℕ) (s : List ℕ) (r : Stepped) (t : TalliesFound) → length (st .rows) ≡ channels → Awaits st card c epoch n → IsBit i → (i ≡ 8 → ⊥)
+      → SentAs (flip n i) s → OffersTo st card c epoch s r → FindsTallies (r .station) card c t
       → talliesPaper t ≡ 0 ∷ oneMore (talliesAt st c .offered) ∷ talliesAt st c .clean ∷ oneMore (talliesAt st c .repaired) ∷ talliesAt st c .refused ∷ map (causeOf (talliesAt st c)) causes
   -- "a flip of bit 8 alone is refused": 31, "S = 0, C = 1"; and "every two flips are DAMAGED": 32, "S not 0, C = 0". Whatever the channel holds, at
   -- every epoch
-  pub bit-8 : (s : List ℕ) (r : Stepped) → isServed c ≡ true → SentAs (flip n 8) s → OffersTo st c epoch s r → answerPaper (r .answer) ≡ 31 ∷ []
-  pub two-flips : (i j : ℕ) (s : List ℕ) (r : Stepped) → isServed c ≡ true → IsBit i → IsBit j → (i ≡ j → ⊥) → SentAs (flip (flip n i) j) s → OffersTo st c epoch s r
+  pub bit-8 : (s : List ℕ) (r : Stepped) → isServed card c ≡ true → SentAs (flip n 8) s → OffersTo st card c epoch s r → answerPaper (r .answer) ≡ 31 ∷ []
+  pub two-flips : (i j : ℕ) (s : List ℕ) (r : Stepped) → isServed card c ≡ true → IsBit i → IsBit j → (i ≡ j → ⊥) → SentAs (flip (flip n i) j) s → OffersTo st card c epoch s r
       → answerPaper (r .answer) ≡ 32 ∷ []
 
 -- ---- such strings there are: the paper's A, on the last channel of a fresh station at epoch 0
 pub record SentWitness : Type 0 where
   pub A-good : SentString a
-  pub A-awaited : Awaits freshStation lastChannel 0 a
+  pub A-awaited : Awaits freshStation 2 lastChannel 0 a
   pub A-number : mOf a ≡ 1
 
 pub sent-witness : SentWitness

@@ -1,11 +1,11 @@
--- A station: 24 rows, one book and its summary, and what an offer and a reset make of it (the paper, "Frames and the book" and "Numbers that say no";
--- request 5). For every station value.
+-- A station: a row for each channel of two cards, one book and its summary, and what an offer and a reset make of it (the paper, "Frames and the book"
+-- and "Numbers that say no"; requests 5 and 10). For every station value, whichever card asks.
 -- Assumes nothing.
 use Prim.Native.Nat.{ℕ, _-_, _<_}
-use mathlib.Core.Bool.{Bool, true, false, not, _&&_}
+use mathlib.Core.Bool.{Bool, true, false, not, _&&_, _||_}
 use mathlib.Core.List.{List, [], _∷_, _++_}
 use mathlib.Core.Path.{_≡_}
-use lib.Dec.{ltb}
+use lib.Dec.{eqb, ltb}
 use lib.ListN.{getD, set, replicate}
 use Rattle.strings.specs.Pick.{pick}
 use Rattle.strings.specs.Numbers.{refusalPaper, Test, test, answerOf}
@@ -26,12 +26,19 @@ use Rattle.station.specs.declared.Gate.the-variants.{Open, Shut}
 use Rattle.station.specs.declared.Stepped.{Stepped}
 use Rattle.station.specs.declared.Emptied.{Emptied}
 
--- how many channels a station has, and the highest
+-- "two cards of 24 channels": how many each has, how many the station has, and the highest
+abbrev pub cardChannels : ℕ
+cardChannels = 24
+
 abbrev pub channels : ℕ
-channels = 24
+channels = 48
 
 abbrev pub lastChannel : ℕ
 lastChannel = channels - 1
+
+-- "Channels 0..23 belong to card one, 24..47 to card two"
+abbrev pub ownerOf : ℕ → ℕ
+ownerOf c = pick (ltb c cardChannels) 1 2
 
 -- "A fresh station is all empty", and "an empty book has count 0 and both days 0"
 unfoldable pub freshStation : Station
@@ -48,30 +55,38 @@ rowAt st c = getD (st .rows) c noRow
 abbrev pub heldAt : Station → ℕ → Frame
 heldAt st c = frameOf (rowAt st c)
 
--- ---- the gate: the tests that stand before a channel's own, in every call that names a channel. CHANNEL: "channel above 23"
-abbrev pub gateTests : ℕ → List Test
-gateTests c = test 1 (ltb lastChannel c) ∷ []
+-- ---- the gate: the tests that stand before a call's own
+-- CARD: "before CHANNEL or SLOT, for a card other than one or two"
+abbrev pub isCard : ℕ → Bool
+isCard card = eqb card 1 || eqb card 2
+
+abbrev pub cardTest : ℕ → Test
+cardTest card = test 16 (not (isCard card))
+
+-- of a call that names a channel: CARD; CHANNEL "reads 'above 47'"; "15 OWNER, directly after it, when the channel is the other card's"
+abbrev pub gateTests : ℕ → ℕ → List Test
+gateTests card c = cardTest card ∷ test 1 (ltb lastChannel c) ∷ test 15 (not (eqb (ownerOf c) card)) ∷ []
 
 -- a call is served where none of them fits
 abbrev pub noneFits : List Test → Bool
 noneFits [] = true
 noneFits (t ∷ ts) = not (t .fits) && noneFits ts
 
-unfoldable pub isServed : ℕ → Bool
-isServed c = noneFits (gateTests c)
+unfoldable pub isServed : ℕ → ℕ → Bool
+isServed card c = noneFits (gateTests card c)
 
 -- what a call is told that is not: the first that fits
-abbrev pub shutSays : ℕ → List ℕ
-shutSays c = answerOf (gateTests c) []
+abbrev pub shutSays : ℕ → ℕ → List ℕ
+shutSays card c = answerOf (gateTests card c) []
 
 -- where a call enters: at its channel's row, which is one of the rows; or not, and why
-abbrev pub Enters : ℕ → Gate → Type 0
-Enters c (Open i) = (isServed c ≡ true) × ((i ≡ c) × (i < channels))
-Enters c (Shut why) = (isServed c ≡ false) × (refusalPaper why ≡ shutSays c)
+abbrev pub Enters : ℕ → ℕ → Gate → Type 0
+Enters card c (Open i) = (isServed card c ≡ true) × ((i ≡ c) × (i < channels))
+Enters card c (Shut why) = (isServed card c ≡ false) × (refusalPaper why ≡ shutSays card c)
 
--- ---- an offer: "tested in the order 1 to 9"
-abbrev pub stationTests : Station → ℕ → ℕ → List ℕ → List Test
-stationTests st c epoch s = gateTests c ++ offerTests (heldAt st c) epoch s
+-- ---- an offer: at the gate, and then "in the order 1 to 9"
+abbrev pub stationTests : Station → ℕ → ℕ → ℕ → List ℕ → List Test
+stationTests st card c epoch s = gateTests card c ++ offerTests (heldAt st c) epoch s
 
 -- "A taken offer answers m, a verdict .. and news", and the polarity
 abbrev pub toldIn : Station → ℕ → ℕ → List ℕ → List ℕ
@@ -92,10 +107,11 @@ corrected changed b old = pick changed (walkOf (b .entries)) old
 abbrev pub summaryAfter : Summary → Book → Row → ℕ → List ℕ → Summary
 summaryAfter old b row epoch s = corrected (entryChanges b row epoch s) (bookAfter b row epoch s) old
 
--- "CHANNEL changes nothing at all"; any other offer changes its channel's row, the book and the summary
-unfoldable pub stationAfter : Station → ℕ → ℕ → List ℕ → Station
-stationAfter st c epoch s =
-    pick (isServed c)
+-- "CHANNEL changes nothing at all", OWNER "changes nothing" and CARD "changes nothing either"; any other offer changes its channel's row, the book and the
+-- summary
+unfoldable pub stationAfter : Station → ℕ → ℕ → ℕ → List ℕ → Station
+stationAfter st card c epoch s =
+    pick (isServed card c)
     (record {
       rows = set (st .rows) c (offeredRow (rowAt st c) epoch s);
       book = bookAfter (st .book) (rowAt st c) epoch s;
@@ -103,14 +119,14 @@ stationAfter st c epoch s =
     })
     st
 
-pub record OffersTo (st : Station) (c epoch : ℕ) (s : List ℕ) (r : Stepped) : Type 0 where
-  pub answer : answerPaper (r .answer) ≡ answerOf (stationTests st c epoch s) (toldIn st c epoch s)
-  pub station : r .station ≡ stationAfter st c epoch s
+pub record OffersTo (st : Station) (card c epoch : ℕ) (s : List ℕ) (r : Stepped) : Type 0 where
+  pub answer : answerPaper (r .answer) ≡ answerOf (stationTests st card c epoch s) (toldIn st c epoch s)
+  pub station : r .station ≡ stationAfter st card c epoch s
 
--- ---- "Reset: 1". "A reset empties the row, record and tallies; the book stays", and its summary
-unfoldable pub stationReset : Station → ℕ → Station
-stationReset st c = pick (isServed c) (record { rows = set (st .rows) c emptyRow; book = st .book; summary = st .summary }) st
+-- ---- "Reset: 1", and the gate's other two. "A reset empties the row, record and tallies; the book stays", and its summary
+unfoldable pub stationReset : Station → ℕ → ℕ → Station
+stationReset st card c = pick (isServed card c) (record { rows = set (st .rows) c emptyRow; book = st .book; summary = st .summary }) st
 
-pub record Resets (st : Station) (c : ℕ) (r : Emptied) : Type 0 where
-  pub answer : writtenPaper (r .answer) ≡ shutSays c
-  pub station : r .station ≡ stationReset st c
+pub record Resets (st : Station) (card c : ℕ) (r : Emptied) : Type 0 where
+  pub answer : writtenPaper (r .answer) ≡ shutSays card c
+  pub station : r .station ≡ stationReset st card c

@@ -1,5 +1,5 @@
-// The station: 24 rows, one book and its summary. Strings go in by channel; the book, what it holds in
-// short, the records, the tallies and the health of a satellite come out.
+// The station of two cards: a row for each of their 48 channels, one book and its summary. Strings go in by card
+// and channel; the book, what it holds in short, the records, the tallies and the health of a satellite come out.
 mod entering;
 mod offering;
 mod queries;
@@ -24,13 +24,13 @@ use strings::Written;
 use summary::Summary;
 use tallies::Tallies;
 
-// How many channels a station has.
-pub const CHANNELS: usize = 24;
+// How many channels a card has. The first of them are card one's.
+pub const CARD_CHANNELS: usize = 24;
 
-// The highest channel.
-pub const LAST_CHANNEL: u8 = (CHANNELS - 1) as u8;
+// How many channels the station has, of both cards.
+pub const CHANNELS: usize = 2 * CARD_CHANNELS;
 
-// All that the card knows: a row for each channel, the almanac book that they share, and the book's
+// All that the cards know: a row for each channel, the almanac book that they share, and the book's
 // summary.
 #[repr(C)]
 pub struct Station {
@@ -72,6 +72,12 @@ pub enum EntryFound {
 // A channel's tallies, or why not.
 pub enum TalliesFound {
     Found(Tallies),
+    Refused(Refusal),
+}
+
+// The book's summary, or why not.
+pub enum SummaryFound {
+    Found(Summary),
     Refused(Refusal),
 }
 

@@ -43,10 +43,10 @@ pub fn fresh() -> Station
 }
 
 // Offers a string, in relative form and of any length, to a channel at an epoch.
-pub fn offer(mut st: Station, channel: u8, epoch: u32, s: &[u8]) -> Stepped
-    ensures { λ r. ⌜ OffersTo st channel epoch (now (s .entry)) r ⌝ }
+pub fn offer(mut st: Station, card: u8, channel: u8, epoch: u32, s: &[u8]) -> Stepped
+    ensures { λ r. ⌜ OffersTo st card channel epoch (now (s .entry)) r ⌝ }
 {
-    let gate = enter(channel);
+    let gate = enter(card, channel);
     match gate {
         Gate::Shut(why) => Stepped {
             station: st,
@@ -100,10 +100,10 @@ pub fn next_summary(changed: bool, b: Book, old: Summary) -> Summary
 }
 
 // Empties a channel's row, its record and its tallies. The book and its summary stay.
-pub fn reset(mut st: Station, channel: u8) -> Emptied
-    ensures { λ r. ⌜ Resets st channel r ⌝ }
+pub fn reset(mut st: Station, card: u8, channel: u8) -> Emptied
+    ensures { λ r. ⌜ Resets st card channel r ⌝ }
 {
-    let gate = enter(channel);
+    let gate = enter(card, channel);
     match gate {
         Gate::Shut(why) => Emptied {
             station: st,

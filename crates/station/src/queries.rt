@@ -5,15 +5,16 @@ use crate::Health;
 use crate::HealthFound;
 use crate::RecordFound;
 use crate::Station;
+use crate::SummaryFound;
 use crate::TalliesFound;
 use crate::entering::enter;
+use crate::entering::is_card;
 use book::Book;
 use book::LAST_SLOT;
 use book::entry_in;
 use immediate::Immediate;
 use immediate::has_record;
 use strings::Refusal;
-use summary::Summary;
 use words::immediate_words;
 use words::word_in;
 ghost use mathlib.Core.Path.{_≡_};
@@ -21,10 +22,10 @@ ghost use Prim.Native.Nat.{_/_, _%_};
 ghost use Rattle.station.specs.Queries.{FindsRecord, FindsEntry, FindsTallies, FindsSummary, FindsHealth, healthBy, lOf, modelOf, lCounted, judged};
 
 // The words of a channel's immediate record.
-pub fn immediate_of(st: Station, channel: u8) -> RecordFound
-    ensures { λ r. ⌜ FindsRecord st channel r ⌝ }
+pub fn immediate_of(st: Station, card: u8, channel: u8) -> RecordFound
+    ensures { λ r. ⌜ FindsRecord st card channel r ⌝ }
 {
-    let gate = enter(channel);
+    let gate = enter(card, channel);
     match gate {
         Gate::Shut(why) => RecordFound::Refused(why),
         Gate::Open(i) => {
@@ -40,9 +41,12 @@ pub fn immediate_of(st: Station, channel: u8) -> RecordFound
 }
 
 // The entry of a slot; the book's slots are numbered from 1.
-pub fn entry_of(st: Station, slot: u8) -> EntryFound
-    ensures { λ r. ⌜ FindsEntry st slot r ⌝ }
+pub fn entry_of(st: Station, card: u8, slot: u8) -> EntryFound
+    ensures { λ r. ⌜ FindsEntry st card slot r ⌝ }
 {
+    if !is_card(card) {
+        return EntryFound::Refused(Refusal::Card);
+    }
     if slot == 0 {
         return EntryFound::Refused(Refusal::Slot);
     }
@@ -58,10 +62,10 @@ pub fn entry_of(st: Station, slot: u8) -> EntryFound
 }
 
 // A channel's tallies.
-pub fn tallies_of(st: Station, channel: u8) -> TalliesFound
-    ensures { λ r. ⌜ FindsTallies st channel r ⌝ }
+pub fn tallies_of(st: Station, card: u8, channel: u8) -> TalliesFound
+    ensures { λ r. ⌜ FindsTallies st card channel r ⌝ }
 {
-    let gate = enter(channel);
+    let gate = enter(card, channel);
     match gate {
         Gate::Shut(why) => TalliesFound::Refused(why),
         Gate::Open(i) => {
@@ -73,18 +77,21 @@ pub fn tallies_of(st: Station, channel: u8) -> TalliesFound
 }
 
 // How many slots are filled, the oldest day and the newest: as kept, with no walk.
-pub fn summary_of(st: Station) -> Summary
-    ensures { λ r. ⌜ FindsSummary st r ⌝ }
+pub fn summary_of(st: Station, card: u8) -> SummaryFound
+    ensures { λ r. ⌜ FindsSummary st card r ⌝ }
 {
+    if !is_card(card) {
+        return SummaryFound::Refused(Refusal::Card);
+    }
     let s = st.summary;
-    s
+    SummaryFound::Found(s)
 }
 
 // The health of the satellite that a channel's record is of.
-pub fn health_of(st: Station, channel: u8) -> HealthFound
-    ensures { λ r. ⌜ FindsHealth st channel r ⌝ }
+pub fn health_of(st: Station, card: u8, channel: u8) -> HealthFound
+    ensures { λ r. ⌜ FindsHealth st card channel r ⌝ }
 {
-    let gate = enter(channel);
+    let gate = enter(card, channel);
     match gate {
         Gate::Shut(why) => HealthFound::Refused(why),
         Gate::Open(i) => {

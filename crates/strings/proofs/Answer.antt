@@ -8,7 +8,7 @@ use native.Mathlib.Nat.{le-of-suc-le-suc, not-suc-le-zero, zero-lt-suc}
 use lib.Dec.{T, eqb, eqb-refl, T-not}
 use lib.ListN.{length, getD, drop}
 use Rattle.strings.specs.declared.Refusal.{Refusal}
-use Rattle.strings.specs.declared.Refusal.the-variants.{Channel, Shape, Damaged, Idle, Number, Early, Stale, OffBeat, Conflict, Range, Place, Room, Nothing, Slot}
+use Rattle.strings.specs.declared.Refusal.the-variants.{Channel, Shape, Damaged, Idle, Number, Early, Stale, OffBeat, Conflict, Range, Place, Room, Nothing, Slot, Owner, Card}
 use Rattle.strings.specs.declared.hamming.Damage.the-variants.{Unplaced, Even, Outside}
 use Rattle.strings.specs.declared.Verdict.{Verdict}
 use Rattle.strings.specs.declared.Verdict.the-variants.{Clean, Repaired}
@@ -54,7 +54,8 @@ refusalOf l =
     pick (eqb n 1) Channel (pick (eqb n 2) Shape
     (pick (eqb n 31) (Damaged Unplaced) (pick (eqb n 32) (Damaged Even) (pick (eqb n 33) (Damaged Outside)
     (pick (eqb n 4) Idle (pick (eqb n 5) Number (pick (eqb n 6) Early (pick (eqb n 7) Stale (pick (eqb n 8) OffBeat (pick (eqb n 9) Conflict
-    (pick (eqb n 10) (Range (getD l 1 0)) (pick (eqb n 11) Place (pick (eqb n 12) Room (pick (eqb n 13) Nothing Slot))))))))))))))
+    (pick (eqb n 10) (Range (getD l 1 0)) (pick (eqb n 11) Place (pick (eqb n 12) Room (pick (eqb n 13) Nothing
+    (pick (eqb n 14) Slot (pick (eqb n 15) Owner Card))))))))))))))))
 
 -- and its number is not 0
 pub refusal-known : (r : Refusal) → (refusalOf (refusalPaper r) ≡ r) × (eqb (getD (refusalPaper r) 0 0) 0 ≡ false)
@@ -74,6 +75,8 @@ refusal-known Place = (refl, refl)
 refusal-known Room = (refl, refl)
 refusal-known Nothing = (refl, refl)
 refusal-known Slot = (refl, refl)
+refusal-known Owner = (refl, refl)
+refusal-known Card = (refl, refl)
 
 pub refusal-same : (r q : Refusal) → refusalPaper r ≡ refusalPaper q → r ≡ q
 refusal-same r q e = sym (refusal-known r .0) ∙ ap refusalOf e ∙ refusal-known q .0

@@ -8,7 +8,7 @@ use mathlib.Core.Path.{_≡_}
 use lib.Dec.{T}
 use lib.ListN.{length, getD}
 use Rattle.strings.specs.declared.Refusal.{Refusal}
-use Rattle.strings.specs.declared.Refusal.the-variants.{Channel, Shape, Damaged, Idle, Number, Early, Stale, OffBeat, Conflict, Range, Place, Room, Nothing, Slot}
+use Rattle.strings.specs.declared.Refusal.the-variants.{Channel, Shape, Damaged, Idle, Number, Early, Stale, OffBeat, Conflict, Range, Place, Room, Nothing, Slot, Owner, Card}
 use Rattle.strings.specs.declared.hamming.Damage.{Damage}
 use Rattle.strings.specs.declared.hamming.Damage.the-variants.{Unplaced, Even, Outside}
 use Rattle.strings.specs.declared.Verdict.{Verdict}
@@ -37,6 +37,8 @@ refusalPaper Place = 11 ∷ []
 refusalPaper Room = 12 ∷ []
 refusalPaper Nothing = 13 ∷ []
 refusalPaper Slot = 14 ∷ []
+refusalPaper Owner = 15 ∷ []
+refusalPaper Card = 16 ∷ []
 
 -- "a verdict (clean, or repaired with its bit number)": its case, 0 or 1, and the bit number, 0 where none
 abbrev pub verdictPaper : Verdict → List ℕ

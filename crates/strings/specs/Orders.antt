@@ -4,7 +4,7 @@ use mathlib.Core.List.{List, [], _∷_, _++_}
 use mathlib.Core.Path.{_≡_, refl}
 use Prim.Native.Nat.{ℕ}
 use Rattle.strings.specs.declared.Refusal.{Refusal}
-use Rattle.strings.specs.declared.Refusal.the-variants.{Channel, Shape, Damaged, Idle, Number, Early, Stale, OffBeat, Conflict, Range, Place, Room, Nothing, Slot}
+use Rattle.strings.specs.declared.Refusal.the-variants.{Channel, Shape, Damaged, Idle, Number, Early, Stale, OffBeat, Conflict, Range, Place, Room, Nothing, Slot, Owner, Card}
 use Rattle.strings.specs.declared.hamming.Damage.the-variants.{Unplaced, Even, Outside}
 use Rattle.strings.specs.declared.Verdict.the-variants.{Clean, Repaired}
 use Rattle.strings.specs.Table413.{_to_}
@@ -14,7 +14,7 @@ use Rattle.strings.specs.Calls.{soundTests, stringTests, checkTests}
 -- the names in the order of the paper's table, with the three causes in the place of DAMAGED; RANGE tells a place
 abbrev pub refusals : ℕ → List Refusal
 refusals place =
-    Channel ∷ Shape ∷ Damaged Unplaced ∷ Damaged Even ∷ Damaged Outside ∷ Idle ∷ Number ∷ Early ∷ Stale ∷ OffBeat ∷ Conflict ∷ Range place ∷ Place ∷ Room ∷ Nothing ∷ Slot ∷ []
+    Channel ∷ Shape ∷ Damaged Unplaced ∷ Damaged Even ∷ Damaged Outside ∷ Idle ∷ Number ∷ Early ∷ Stale ∷ OffBeat ∷ Conflict ∷ Range place ∷ Place ∷ Room ∷ Nothing ∷ Slot ∷ Owner ∷ Card ∷ []
 
 abbrev pub inPaper : List Refusal → List (List ℕ)
 inPaper [] = []
@@ -25,8 +25,8 @@ abbrev pub singly : List ℕ → List (List ℕ)
 singly [] = []
 singly (n ∷ ns) = (n ∷ []) ∷ singly ns
 
--- their numbers are 1 to 14 with 31, 32, 33 for 3, and each is answered alone but for RANGE, which has its place beside it
-pub refusal-numbers : (place : ℕ) → inPaper (refusals place) ≡ singly (1 to 2) ++ singly (31 to 33) ++ singly (4 to 9) ++ ((10 ∷ place ∷ []) ∷ singly (11 to 14))
+-- their numbers are 1 to 16 with 31, 32, 33 for 3, and each is answered alone but for RANGE, which has its place beside it
+pub refusal-numbers : (place : ℕ) → inPaper (refusals place) ≡ singly (1 to 2) ++ singly (31 to 33) ++ singly (4 to 9) ++ ((10 ∷ place ∷ []) ∷ singly (11 to 16))
 refusal-numbers place = refl
 
 -- "clean, or repaired with its bit number": the case, 0 or 1 in this order, and the bit number, 0 where none was repaired

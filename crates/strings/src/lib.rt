@@ -34,6 +34,8 @@ pub enum Refusal {
     Room,
     Nothing,
     Slot,
+    Owner,
+    Card,
 }
 
 // What the check says of a string that it takes: as it came, or with the bit that it repaired.

@@ -25,6 +25,8 @@ pub fn refusal_number(r: Refusal) -> u8
         Refusal::Room => 12,
         Refusal::Nothing => 13,
         Refusal::Slot => 14,
+        Refusal::Owner => 15,
+        Refusal::Card => 16,
     }
 }
 

@@ -5,7 +5,7 @@ use mathlib.Core.List.{[], _∷_}
 use mathlib.Core.Path.{_≡_, refl}
 use lib.ListN.{getD}
 use Rattle.strings.specs.declared.Refusal.{Refusal}
-use Rattle.strings.specs.declared.Refusal.the-variants.{Channel, Shape, Damaged, Idle, Number, Early, Stale, OffBeat, Conflict, Range, Place, Room, Nothing, Slot}
+use Rattle.strings.specs.declared.Refusal.the-variants.{Channel, Shape, Damaged, Idle, Number, Early, Stale, OffBeat, Conflict, Range, Place, Room, Nothing, Slot, Owner, Card}
 use Rattle.strings.specs.declared.Verdict.{Verdict}
 use Rattle.strings.specs.declared.Checked.the-variants.{Taken}
 use Rattle.strings.specs.Numbers.{refusalPaper, verdictPaper}
@@ -28,6 +28,8 @@ refusal-packed Place = refl
 refusal-packed Room = refl
 refusal-packed Nothing = refl
 refusal-packed Slot = refl
+refusal-packed Owner = refl
+refusal-packed Card = refl
 
 -- a taken check tells 0, and its verdict
 pub taken-packed : (v : Verdict) (n : ℕ) → n ≡ packed (verdictPaper v) → 256 * n ≡ packed (checkedPaper (Taken v))

@@ -66,6 +66,8 @@ fn place_in(why: Refusal) -> u8
         Refusal::Room => 0,
         Refusal::Nothing => 0,
         Refusal::Slot => 0,
+        Refusal::Owner => 0,
+        Refusal::Card => 0,
     }
 }
 

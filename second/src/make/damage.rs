@@ -12,7 +12,7 @@ use crate::words::kinds::{ALMANAC_SLOT, EVEN};
 
 /// String 3 of the frame at 1000 is held on this channel.
 const CHANNEL: u8 = 0;
-const NO_CHANNEL: u8 = 24;
+const OTHERS_CHANNEL: u8 = 24;
 const EPOCH: u32 = 1002;
 
 /// Early, stale, off beat, a new frame.
@@ -58,7 +58,7 @@ impl Input {
         }
     }
 
-    /// On a wrong channel, in a wrong shape; m 0, early, stale, off beat, in conflict,
+    /// On the other card's channel, in a wrong shape; m 0, early, stale, off beat, in conflict,
     /// held already or of a new frame. Then the held string as it was.
     fn offer_damaged(&mut self, flips: &[usize]) {
         let held = with_m(&self.random.encoded_string(false), 3);
@@ -79,7 +79,7 @@ impl Input {
     fn offer_misshapen(&mut self, epoch: u32, string: &NavString) {
         for symbols in in_both_polarities(string) {
             for bytes in in_every_shape(&symbols) {
-                for channel in [CHANNEL, NO_CHANNEL] {
+                for channel in [CHANNEL, OTHERS_CHANNEL] {
                     self.offer_symbols(channel, epoch, &bytes);
                 }
             }

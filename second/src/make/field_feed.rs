@@ -5,7 +5,7 @@ use super::feed::Feed;
 use crate::block::{field, offer_field, remark_field, reset_field, OFFER};
 use crate::listing::RECORD_BYTES;
 use crate::random::SplitMix64;
-use crate::station::CHANNELS;
+use crate::station::card::CHANNELS_OF_A_CARD;
 
 /// The longest content that two bytes of length allow.
 const LONGEST: usize = u16::MAX as usize;
@@ -22,7 +22,7 @@ impl FieldFeed {
     pub fn new(seed: u64) -> FieldFeed {
         FieldFeed {
             random: SplitMix64::new(seed),
-            records: Feed::new(seed, CHANNELS as u8),
+            records: Feed::new(seed, CHANNELS_OF_A_CARD as u8),
         }
     }
 
@@ -48,10 +48,10 @@ impl Iterator for FieldFeed {
     type Item = Vec<u8>;
 
     fn next(&mut self) -> Option<Vec<u8>> {
-        let channel = self.random.below(CHANNELS) as u8;
+        let channel = self.random.below(CHANNELS_OF_A_CARD) as u8;
         let field = match self.random.below(100) {
             0 => reset_field(channel),
-            1 => reset_field(channel + CHANNELS as u8),
+            1 => reset_field(channel + CHANNELS_OF_A_CARD as u8),
             2..=5 => self.remark(),
             _ => self.offer(),
         };

@@ -5,7 +5,7 @@ use crate::known;
 use crate::listing::Record;
 use crate::random::SplitMix64;
 use crate::relative;
-use crate::station::CHANNELS;
+use crate::station::card::CHANNELS_OF_A_CARD;
 use crate::string::{NavString, BYTES, DATA, IDLE_BIT, PADDING};
 
 /// A plain string, the channel that follows its satellite, and when it came.
@@ -172,7 +172,9 @@ fn altered_epoch(random: &mut SplitMix64, hearing: Hearing, sent: &Sent) -> u32 
 
 fn altered_channel(random: &mut SplitMix64, hearing: Hearing, channel: u8) -> u8 {
     match hearing {
-        Hearing::WrongChannel => (CHANNELS + random.below(256 - CHANNELS)) as u8,
+        Hearing::WrongChannel => {
+            (CHANNELS_OF_A_CARD + random.below(256 - CHANNELS_OF_A_CARD)) as u8
+        }
         _ => channel,
     }
 }

@@ -2,16 +2,19 @@
 
 use super::hearing::in_some_polarity;
 use super::satellite::{Satellite, Upload, FRAMES_IN_A_SUPERFRAME};
+use super::station::cards::CARD_TWO;
 use super::Input;
 use crate::alter::{with_bit_inverted, with_m};
 use crate::known;
 use crate::listing::Record;
 use crate::random::SplitMix64;
+use crate::request::{IMMEDIATE, OFFER};
 use crate::station::book::SLOTS;
 use crate::station::frame::STRINGS_IN_A_FRAME;
 use crate::string::NavString;
 
 const SEED: u64 = 1;
+const SEED_OF_CARD_TWO: u64 = 2;
 
 /// When the first frames start.
 const START: u32 = 100;
@@ -24,11 +27,11 @@ const RECEIVED: u8 = 0;
 const STEADY: u8 = 1;
 const DAMAGED: u8 = 2;
 const RELOCKED: u8 = 5;
-const NO_CHANNEL: u8 = 24;
+const OTHERS_CHANNEL: u8 = 24;
 
-/// The records in the order of their epochs.
+/// What card one hears. The records in the order of their epochs.
 pub fn records() -> Vec<Record> {
-    let mut story = Story::new();
+    let mut story = Story::new(SEED);
     story.received_frame();
     story.almanac_over_five_frames();
     story.damaged_strings();
@@ -39,15 +42,29 @@ pub fn records() -> Vec<Record> {
     story.records
 }
 
-/// The records as offers, then queries of their channels, of every slot and of the
-/// summary.
+/// Strings 1 to 4 of a satellite, on a channel of card two.
+fn records_of_card_two() -> Vec<Record> {
+    let mut story = Story::new(SEED_OF_CARD_TWO);
+    let satellite = Satellite::new(&mut story.random, 2);
+    let strings = satellite.frame(&story.upload, 1);
+    story.frame(OTHERS_CHANNEL, START, &strings[..4]);
+    story.records
+}
+
+/// The records of each card as its offers, then queries of their channels, of every slot and
+/// of the summary. Card two also asks for a channel of card one.
 pub(super) fn add_all(input: &mut Input) {
     for record in records() {
         input.offer_record(&record);
     }
+    for record in records_of_card_two() {
+        input.ask(CARD_TWO, OFFER, &record.to_bytes());
+    }
     for channel in [RECEIVED, STEADY, DAMAGED, RELOCKED] {
         input.ask_channel(channel);
     }
+    input.ask_row(CARD_TWO, OTHERS_CHANNEL);
+    input.ask(CARD_TWO, IMMEDIATE, &[RECEIVED]);
     input.ask_slots(1..=SLOTS);
     input.ask_summary();
 }
@@ -59,8 +76,8 @@ struct Story {
 }
 
 impl Story {
-    fn new() -> Story {
-        let mut random = SplitMix64::new(SEED);
+    fn new(seed: u64) -> Story {
+        let mut random = SplitMix64::new(seed);
         Story {
             upload: Upload::new(&mut random, ALMANAC_DAY),
             random,
@@ -131,12 +148,12 @@ impl Story {
         self.frame(RELOCKED, second_start + 11 + FRAME, &frames[3].1);
     }
 
-    /// A wrong channel, m 0, an epoch too early, and one bit other than held.
+    /// A channel of the other card, m 0, an epoch too early, and one bit other than held.
     fn strings_that_fit_nowhere(&mut self) {
         let [string_1, .., string_15] = &known::received_frame()[..] else {
             return;
         };
-        self.record(NO_CHANNEL, START, string_1);
+        self.record(OTHERS_CHANNEL, START, string_1);
         self.record(RECEIVED, START + 14, &with_m(string_15, 0));
         self.record(RECEIVED, 3, string_15);
         self.record(RECEIVED, START + 14, &with_bit_inverted(string_15, 80));

@@ -2,6 +2,7 @@
 
 mod almanac;
 pub(super) mod blocks;
+pub(super) mod cards;
 pub(super) mod entry_words;
 mod frames;
 mod health;
@@ -20,8 +21,8 @@ use super::Input;
 use crate::listing::Record;
 use crate::request::{ENTRY, FRESH, HEALTH, IMMEDIATE, OFFER, RESET, TALLIES};
 use crate::station::book::SLOTS;
+use crate::station::card::CHANNELS_OF_A_CARD;
 use crate::station::frame::STRINGS_IN_A_FRAME;
-use crate::station::CHANNELS;
 use crate::string::NavString;
 
 /// The start of a frame where any will do, and that of the next frame.
@@ -84,7 +85,7 @@ impl Input {
 
     /// Every channel and every slot.
     fn ask_all(&mut self) {
-        for channel in 0..CHANNELS {
+        for channel in 0..CHANNELS_OF_A_CARD {
             self.ask_channel(channel as u8);
         }
         self.ask_slots(1..=SLOTS);

@@ -1,4 +1,4 @@
-//! Request 13: a block. Its answer is the only one of several lines.
+//! Requests 13 and 45: a block. Its answer is the only one of several lines.
 
 use super::line_of;
 use super::station::{answer_to_offer, answer_to_reset};
@@ -7,8 +7,8 @@ use crate::station::Station;
 
 /// "For each offer and reset the line of 6 or 7, nothing for a remark, then `end` or
 /// `no N PLACE`." The last line has no line feed.
-pub fn block(station: &mut Station, block: &[u8]) -> String {
-    let handed_over = hand_over(station, block);
+pub fn block(station: &mut Station, card: u8, block: &[u8]) -> String {
+    let handed_over = hand_over(station, card, block);
     let mut lines: Vec<String> = handed_over.answers.into_iter().map(line).collect();
     let end = handed_over.end.map(|()| String::from("end"));
     lines.push(line_of(end));

@@ -1,4 +1,4 @@
-//! Requests 6 to 12, 14 and 23: the station's calls.
+//! Requests 6 to 12, 14 and 23, and 32 higher: the station's calls.
 
 use super::{in_decimal, Answer};
 use crate::refusal::Refusal;
@@ -9,10 +9,10 @@ use crate::station::{Health, Station};
 
 /// Payload: channel, epoch in four bytes, then the string in relative form, of any
 /// length.
-pub fn offer(station: &mut Station, payload: &[u8]) -> Option<Answer> {
+pub fn offer(station: &mut Station, card: u8, payload: &[u8]) -> Option<Answer> {
     let (&[channel, e0, e1, e2, e3], symbols) = payload.split_first_chunk()?;
     let epoch = u32::from_be_bytes([e0, e1, e2, e3]);
-    let answer = station.offer(usize::from(channel), epoch, symbols);
+    let answer = station.offer(card, usize::from(channel), epoch, symbols);
     Some(answer_to_offer(answer))
 }
 
@@ -33,9 +33,9 @@ fn news_number(news: News) -> u8 {
     }
 }
 
-pub fn reset(station: &mut Station, payload: &[u8]) -> Option<Answer> {
+pub fn reset(station: &mut Station, card: u8, payload: &[u8]) -> Option<Answer> {
     let channel = only_byte(payload)?;
-    Some(answer_to_reset(station.reset(channel)))
+    Some(answer_to_reset(station.reset(card, channel)))
 }
 
 pub fn answer_to_reset(answer: Result<(), Refusal>) -> Answer {
@@ -43,26 +43,26 @@ pub fn answer_to_reset(answer: Result<(), Refusal>) -> Answer {
 }
 
 /// The 26 words of strings 1 to 4.
-pub fn immediate(station: &Station, payload: &[u8]) -> Option<Answer> {
-    let answer = station.immediate(only_byte(payload)?);
+pub fn immediate(station: &Station, card: u8, payload: &[u8]) -> Option<Answer> {
+    let answer = station.immediate(card, only_byte(payload)?);
     Some(answer.map(|record| format!("ok {}", in_decimal(&record.words))))
 }
 
 /// Bits 80..9 and bits 80..10, each as a number of 18 hex digits.
-pub fn entry(station: &Station, payload: &[u8]) -> Option<Answer> {
-    let answer = station.entry(only_byte(payload)?);
+pub fn entry(station: &Station, card: u8, payload: &[u8]) -> Option<Answer> {
+    let answer = station.entry(card, only_byte(payload)?);
     Some(answer.map(|entry| format!("ok {} {:018x} {:018x}", entry.day, entry.even, entry.odd)))
 }
 
 /// The twelve words of the two halves.
-pub fn entry_words(station: &Station, payload: &[u8]) -> Option<Answer> {
-    let answer = station.entry(only_byte(payload)?);
+pub fn entry_words(station: &Station, card: u8, payload: &[u8]) -> Option<Answer> {
+    let answer = station.entry(card, only_byte(payload)?);
     Some(answer.map(|entry| format!("ok {}", in_decimal(&entry.words()))))
 }
 
 /// The four counts of all offers, then those of the ten causes.
-pub fn tallies(station: &Station, payload: &[u8]) -> Option<Answer> {
-    let answer = station.tallies(only_byte(payload)?);
+pub fn tallies(station: &Station, card: u8, payload: &[u8]) -> Option<Answer> {
+    let answer = station.tallies(card, only_byte(payload)?);
     Some(answer.map(|tallies| {
         let Tallies {
             offered,
@@ -77,8 +77,8 @@ pub fn tallies(station: &Station, payload: &[u8]) -> Option<Answer> {
     }))
 }
 
-pub fn health(station: &Station, payload: &[u8]) -> Option<Answer> {
-    let answer = station.health(only_byte(payload)?);
+pub fn health(station: &Station, card: u8, payload: &[u8]) -> Option<Answer> {
+    let answer = station.health(card, only_byte(payload)?);
     Some(answer.map(|health| format!("ok {}", health_number(health))))
 }
 
@@ -97,14 +97,17 @@ pub fn fresh(station: &mut Station, payload: &[u8]) -> Option<Answer> {
 }
 
 /// Count, oldest day, newest day.
-pub fn summary(station: &Station, payload: &[u8]) -> Option<Answer> {
+pub fn summary(station: &Station, card: u8, payload: &[u8]) -> Option<Answer> {
     no_byte(payload)?;
-    let Summary {
-        count,
-        oldest,
-        newest,
-    } = station.summary();
-    Some(Ok(format!("ok {count} {oldest} {newest}")))
+    let answer = station.summary(card);
+    Some(answer.map(|summary| {
+        let Summary {
+            count,
+            oldest,
+            newest,
+        } = summary;
+        format!("ok {count} {oldest} {newest}")
+    }))
 }
 
 fn no_byte(payload: &[u8]) -> Option<()> {

@@ -6,39 +6,17 @@ use std::collections::HashSet;
 use second::block::{self, hand_over, HandedOver};
 use second::random::SplitMix64;
 use second::refusal::{FieldTrouble, Refusal};
+use second::station::card::ONE;
 use second::station::Station;
 
-use crate::calls::{history, Answer, Call};
+use crate::calls::{field, history, Answer, Call};
 use crate::strings::*;
 
 const HISTORIES: u64 = 100;
 const LONGEST: usize = 40;
 
-/// "One-byte tag, two-byte big-endian length."
-fn field(tag: u8, content: &[u8]) -> Vec<u8> {
-    let length = content.len();
-    let header = [tag, (length / 256) as u8, (length % 256) as u8];
-    [&header, content].concat()
-}
-
-/// A field cannot hold a string that is cut short.
-fn field_of(call: &Call) -> Option<Vec<u8>> {
-    match call {
-        Call::Offer {
-            channel,
-            epoch,
-            symbols,
-        } if symbols.len() == 11 => {
-            let content = [&[*channel], &epoch.to_be_bytes()[..], symbols].concat();
-            Some(field(1, &content))
-        }
-        Call::Offer { .. } => None,
-        Call::Reset { channel } => Some(field(2, &[*channel])),
-    }
-}
-
 fn has_a_field(call: &Call) -> bool {
-    field_of(call).is_some()
+    call.field().is_some()
 }
 
 fn answers_of(handed_over: &HandedOver) -> Vec<Answer> {
@@ -63,7 +41,7 @@ fn block_with_remarks(random: &mut SplitMix64, calls: &[Call]) -> Vec<u8> {
             let length = random.below(300);
             block.extend(field(3, &random.bytes(length)));
         }
-        block.extend(field_of(call).unwrap());
+        block.extend(call.field().unwrap());
     }
     block
 }
@@ -90,7 +68,7 @@ fn a_block_is_its_calls_one_by_one_on_stations_that_are_not_fresh() {
             let count = calls.len().min(random.below(LONGEST));
             let some: Vec<Call> = calls.drain(..count).collect();
             let block = block_with_remarks(&mut random, &some);
-            let handed_over = hand_over(&mut first, &block);
+            let handed_over = hand_over(&mut first, ONE, &block);
             let answers = one_by_one(&mut second, &some);
             assert_eq!(answers_of(&handed_over), answers, "history {seed}");
             assert_eq!(handed_over.end, Ok(()));
@@ -98,7 +76,7 @@ fn a_block_is_its_calls_one_by_one_on_stations_that_are_not_fresh() {
             seen.extend(answers.iter().map(number));
         }
     }
-    let every_number = [0, 1, 2, 31, 32, 33].into_iter().chain(4..=9);
+    let every_number = [0, 1, 15, 2, 31, 32, 33].into_iter().chain(4..=9);
     assert_eq!(seen, every_number.collect());
 }
 
@@ -120,7 +98,7 @@ fn what_stands_behind_a_refused_field_has_no_effect() {
         let (refused, trouble) = refused_field(&mut random);
         let rest = block_with_remarks(&mut random, after);
         let mut first = station.clone();
-        let handed_over = hand_over(&mut first, &[&good[..], &refused, &rest].concat());
+        let handed_over = hand_over(&mut first, ONE, &[&good[..], &refused, &rest].concat());
         let answers = one_by_one(&mut station, reached);
         assert_eq!(answers_of(&handed_over), answers);
         let place = good.len();
@@ -138,8 +116,8 @@ fn blocks_end_to_end_are_the_blocks_one_after_another() {
         let (one, other) = calls.split_at(random.below(calls.len()));
         let blocks = [one, other].map(|calls| block_with_remarks(&mut random, calls));
         let (mut first, mut second) = (Station::default(), Station::default());
-        let handed_over = hand_over(&mut first, &blocks.concat());
-        let both = blocks.map(|block| answers_of(&hand_over(&mut second, &block)));
+        let handed_over = hand_over(&mut first, ONE, &blocks.concat());
+        let both = blocks.map(|block| answers_of(&hand_over(&mut second, ONE, &block)));
         assert_eq!(answers_of(&handed_over), both.concat());
         assert_eq!(first, second);
     }
@@ -151,21 +129,22 @@ fn an_empty_block_and_remarks_leave_the_station_as_it_was() {
     let remarks = [0, 1, 255, 256, 60_000, 65_535].map(|length| field(3, &vec![2; length]));
     for block in [Vec::new(), remarks.concat()] {
         let mut other = station.clone();
-        let handed_over = hand_over(&mut other, &block);
+        let handed_over = hand_over(&mut other, ONE, &block);
         assert_eq!((handed_over.answers.len(), handed_over.end), (0, Ok(())));
         assert_eq!(other, station);
     }
 }
 
-/// A channel above 23 is an offer's and a reset's own refusal.
+/// A channel of the other card or above 47 is an offer's and a reset's own refusal.
 #[test]
 fn a_refused_call_stops_nothing() {
     let mut station = station_with_received_frame(3);
     let calls: Vec<Vec<u8>> = (24..=255).map(|channel| field(2, &[channel])).collect();
     let block = [calls.concat(), field(2, &[3])].concat();
-    let handed_over = hand_over(&mut station, &block);
-    let mut expected = vec![Err(Refusal::Channel); 232];
-    expected.push(Ok(None));
+    let handed_over = hand_over(&mut station, ONE, &block);
+    let owner = vec![Err(Refusal::Owner); 24];
+    let channel = vec![Err(Refusal::Channel); 208];
+    let expected = [owner, channel, vec![Ok(None)]].concat();
     assert_eq!(answers_of(&handed_over), expected);
-    assert_eq!(station.immediate(3), Err(Refusal::Nothing));
+    assert_eq!(station.immediate(ONE, 3), Err(Refusal::Nothing));
 }

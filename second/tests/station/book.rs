@@ -4,6 +4,7 @@ use second::known::received_frame;
 use second::refusal::Refusal;
 use second::station::almanac::day_of;
 use second::station::book::Entry;
+use second::station::card::ONE;
 use second::station::Station;
 use second::string::NavString;
 use second::words::kinds::{ALMANAC_DAY, ALMANAC_SLOT, FRAME_5_STRING_14, H};
@@ -16,7 +17,7 @@ const NOTHING: Result<Entry, Refusal> = Err(Refusal::Nothing);
 /// The slots that have an entry.
 fn slots(station: &Station) -> Vec<usize> {
     (1..=24)
-        .filter(|&slot| station.entry(slot).is_ok())
+        .filter(|&slot| station.entry(ONE, slot).is_ok())
         .collect()
 }
 
@@ -43,7 +44,7 @@ fn the_received_frame_shows_satellites_16_to_20() {
     for (index, slot) in (16..=20).enumerate() {
         let strings = received_frame();
         let (even, odd) = (strings[5 + 2 * index], strings[6 + 2 * index]);
-        let entry = station.entry(slot).unwrap();
+        let entry = station.entry(ONE, slot).unwrap();
         assert_eq!(entry.day, 5 * 1461 + 104);
         assert_eq!(entry.even, even.number((80, 9)));
         assert_eq!(entry.odd, odd.number((80, 10)));
@@ -58,9 +59,9 @@ fn a_slot_is_empty_while_one_of_the_three_has_not_come() {
         for index in (0..3).filter(|&index| index != last) {
             take_all(&mut station, 0, 100, &[three[index]]);
         }
-        assert_eq!(station.entry(3), NOTHING);
+        assert_eq!(station.entry(ONE, 3), NOTHING);
         take_all(&mut station, 0, 100, &[three[last]]);
-        assert!(station.entry(3).is_ok());
+        assert!(station.entry(ONE, 3).is_ok());
     }
 }
 
@@ -182,9 +183,9 @@ fn the_last_of_the_three_shows_the_pair_of_strings_14_and_15() {
         let last = strings.remove(last - 5);
         let mut station = Station::default();
         take_all(&mut station, 0, 100, &strings);
-        assert_eq!(station.entry(5), NOTHING);
+        assert_eq!(station.entry(ONE, 5), NOTHING);
         take_all(&mut station, 0, 100, &[last]);
-        assert!(station.entry(5).is_ok());
+        assert!(station.entry(ONE, 5).is_ok());
     }
 }
 
@@ -220,7 +221,7 @@ fn rising() -> [[NavString; 3]; 6] {
 fn entry_of(strings: &[NavString]) -> Entry {
     let mut station = Station::default();
     take_all(&mut station, 0, 100, strings);
-    station.entry(3).unwrap()
+    station.entry(ONE, 3).unwrap()
 }
 
 #[test]
@@ -231,7 +232,7 @@ fn the_greater_entry_is_kept_whichever_comes_first() {
                 let mut station = Station::default();
                 show(&mut station, 0, order[0]);
                 show(&mut station, 1, order[1]);
-                assert_eq!(station.entry(3), Ok(entry_of(greater)));
+                assert_eq!(station.entry(ONE, 3), Ok(entry_of(greater)));
             }
         }
     }
@@ -245,7 +246,7 @@ fn the_greatest_of_many_is_kept_in_any_order() {
         for index in 0..all.len() {
             show(&mut station, index, &all[(index * 5 + shift) % all.len()]);
         }
-        assert_eq!(station.entry(3), Ok(entry_of(&all[5])));
+        assert_eq!(station.entry(ONE, 3), Ok(entry_of(&all[5])));
     }
 }
 
@@ -267,7 +268,7 @@ fn l_m_channel_and_start_are_no_part_of_an_entry() {
         777,
         &[string_5(7, 1), even(6, 3, 1, 5), odd(7, 6, 0)],
     );
-    assert_eq!(station.entry(3), Ok(entry));
+    assert_eq!(station.entry(ONE, 3), Ok(entry));
 }
 
 /// An even string with minus zero at tau A differs in its bits from one with plus.
@@ -282,11 +283,11 @@ fn minus_zeros_stay_in_the_bits() {
 fn a_reset_leaves_the_book() {
     let mut station = station_with_received_frame(0);
     let before = (16..=20)
-        .map(|slot| station.entry(slot))
+        .map(|slot| station.entry(ONE, slot))
         .collect::<Vec<_>>();
-    assert_eq!(station.reset(0), Ok(()));
+    assert_eq!(station.reset(ONE, 0), Ok(()));
     let after = (16..=20)
-        .map(|slot| station.entry(slot))
+        .map(|slot| station.entry(ONE, slot))
         .collect::<Vec<_>>();
     assert_eq!(before, after);
 }

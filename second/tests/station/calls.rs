@@ -4,6 +4,7 @@ use second::listing::Record;
 use second::make;
 use second::random::SplitMix64;
 use second::refusal::Refusal;
+use second::station::card::ONE;
 use second::station::row::Taken;
 use second::station::Station;
 
@@ -23,10 +24,38 @@ pub enum Call {
     },
 }
 
+/// "One-byte tag, two-byte big-endian length."
+pub fn field(tag: u8, content: &[u8]) -> Vec<u8> {
+    let length = content.len();
+    let header = [tag, (length / 256) as u8, (length % 256) as u8];
+    [&header, content].concat()
+}
+
 /// A reset has no more to say than that it was made.
 pub type Answer = Result<Option<Taken>, Refusal>;
 
 impl Call {
+    /// A field cannot hold a string that is cut short.
+    pub fn field(&self) -> Option<Vec<u8>> {
+        match self {
+            Call::Offer {
+                channel,
+                epoch,
+                symbols,
+            } if symbols.len() == 11 => {
+                let content = [&[*channel], &epoch.to_be_bytes()[..], symbols].concat();
+                Some(field(1, &content))
+            }
+            Call::Offer { .. } => None,
+            Call::Reset { channel } => Some(field(2, &[*channel])),
+        }
+    }
+
+    pub fn channel(&self) -> u8 {
+        let (Call::Offer { channel, .. } | Call::Reset { channel }) = self;
+        *channel
+    }
+
     /// The same with all symbols inverted; padding stays.
     pub fn inverted(&self) -> Call {
         let mut call = self.clone();
@@ -39,16 +68,21 @@ impl Call {
     }
 
     pub fn answer(&self, station: &mut Station) -> Answer {
+        self.answer_to(ONE, station)
+    }
+
+    /// What this card is answered.
+    pub fn answer_to(&self, card: u8, station: &mut Station) -> Answer {
         match self {
             Call::Offer {
                 channel,
                 epoch,
                 symbols,
             } => {
-                let taken = station.offer(usize::from(*channel), *epoch, symbols);
+                let taken = station.offer(card, usize::from(*channel), *epoch, symbols);
                 taken.map(Some)
             }
-            Call::Reset { channel } => station.reset(usize::from(*channel)).map(|()| None),
+            Call::Reset { channel } => station.reset(card, usize::from(*channel)).map(|()| None),
         }
     }
 }

@@ -3,6 +3,7 @@
 use second::hamming::Verdict;
 use second::refusal::Refusal;
 use second::relative::to_relative;
+use second::station::card::ONE;
 use second::station::row::News;
 use second::station::Station;
 use second::words::kinds::STRING_4;
@@ -114,7 +115,7 @@ fn a_string_held_is_held_already_in_either_polarity_and_with_a_repair() {
     let string = string_1(7);
     take_all(&mut station, 0, 1000, &[string]);
     let inverted = to_relative(&string).unwrap().inverted();
-    let taken = station.offer(0, 1000, &inverted.to_bytes()).unwrap();
+    let taken = station.offer(ONE, 0, 1000, &inverted.to_bytes()).unwrap();
     assert_eq!(
         (taken.m, taken.verdict, taken.news),
         (1, Verdict::Clean, News::AlreadyHeld)
@@ -182,6 +183,6 @@ fn channels_hold_frames_of_their_own() {
 fn after_a_reset_any_start_is_taken() {
     let mut station = Station::default();
     take_all(&mut station, 0, 1000, &[string_1(1)]);
-    assert_eq!(station.reset(0), Ok(()));
+    assert_eq!(station.reset(ONE, 0), Ok(()));
     take_all(&mut station, 0, 7, &[string_1(2), string_3()]);
 }

@@ -1,5 +1,6 @@
 //! Health: unknown, usable, not usable.
 
+use second::station::card::ONE;
 use second::station::{Health, Station};
 use second::string::NavString;
 use second::words::kinds::{L, L_OF_STRING_3, SATELLITE_TYPE, STRING_2};
@@ -16,7 +17,7 @@ fn health_of(strings: &[NavString], slot: i64, c: i64) -> Health {
     let mut station = Station::default();
     take_all(&mut station, 0, 100, strings);
     take_all(&mut station, 1, 100, &almanac(slot, c, 1));
-    station.health(0).unwrap()
+    station.health(ONE, 0).unwrap()
 }
 
 fn health(b: i64, n: i64, slot: i64, c: i64) -> Health {
@@ -80,7 +81,7 @@ fn the_record_carries_l_whatever_m_is() {
     for (code_of_m, l) in every_m_and_l() {
         let mut station = station_with_entry();
         take_all(&mut station, 0, 100, &satellite(code_of_m, l));
-        let words = &station.immediate(0).unwrap().words;
+        let words = &station.immediate(ONE, 0).unwrap().words;
         assert_eq!((words[14], words[25]), (l as i64, code_of_m as i64));
     }
 }
@@ -97,7 +98,7 @@ fn no_other_bit_of_string_3_and_no_other_l_makes_a_satellite_unfit() {
     let with_l = [with_code(&string_5, &L, 1), even, with_code(&odd, &L, 1)];
     take_all(&mut station, 0, 100, &satellite(1, 0));
     take_all(&mut station, 0, 100, &with_l);
-    assert_eq!(station.health(0), Ok(Health::Usable));
+    assert_eq!(station.health(ONE, 0), Ok(Health::Usable));
 }
 
 #[test]
@@ -109,10 +110,10 @@ fn unknown_until_the_fourth_string_and_then_as_the_record_says() {
             strings.rotate_left(last);
             for string in &strings[..3] {
                 take_all(&mut station, 0, 100, &[*string]);
-                assert_eq!(station.health(0), Ok(Health::Unknown));
+                assert_eq!(station.health(ONE, 0), Ok(Health::Unknown));
             }
             take_all(&mut station, 0, 100, &strings[3..]);
-            assert_eq!(station.health(0), Ok(expected_of((code_of_m, l))));
+            assert_eq!(station.health(ONE, 0), Ok(expected_of((code_of_m, l))));
         }
     }
 }
@@ -129,10 +130,10 @@ fn a_later_frame_counts_once_its_four_strings_have_come() {
                 strings.rotate_left(last);
                 for string in &strings[..3] {
                     take_all(&mut station, 0, 115, &[*string]);
-                    assert_eq!(station.health(0), Ok(expected_of(first)));
+                    assert_eq!(station.health(ONE, 0), Ok(expected_of(first)));
                 }
                 take_all(&mut station, 0, 115, &strings[3..]);
-                assert_eq!(station.health(0), Ok(expected_of(next)));
+                assert_eq!(station.health(ONE, 0), Ok(expected_of(next)));
             }
         }
     }
@@ -146,7 +147,7 @@ fn a_later_frame_out_of_range_never_counts() {
         let mut strings = satellite(next.0, next.1);
         strings[1] = with_code(&strings[1], &STRING_2.words[2], 0);
         take_all(&mut station, 0, 115, &strings);
-        assert_eq!(station.health(0), Ok(expected_of(first)));
+        assert_eq!(station.health(ONE, 0), Ok(expected_of(first)));
     }
 }
 
@@ -157,16 +158,16 @@ fn a_later_frame_of_another_satellite_counts_once_it_is_complete() {
     take_all(&mut station, 0, 100, &satellite(1, 0));
     let [first, second, third, fourth] = strings_1_to_4(0, 6);
     take_all(&mut station, 0, 115, &[fourth, third, first]);
-    assert_eq!(station.health(0), Ok(Health::Usable));
+    assert_eq!(station.health(ONE, 0), Ok(Health::Usable));
     take_all(&mut station, 0, 115, &[second]);
-    assert_eq!(station.health(0), Ok(Health::Unknown));
+    assert_eq!(station.health(ONE, 0), Ok(Health::Unknown));
 }
 
 #[test]
 fn unknown_without_a_record() {
     let mut station = Station::default();
     take_all(&mut station, 0, 100, &almanac(5, 1, 1));
-    assert_eq!(station.health(0), Ok(Health::Unknown));
+    assert_eq!(station.health(ONE, 0), Ok(Health::Unknown));
 }
 
 #[test]
@@ -197,9 +198,9 @@ fn a_later_day_changes_the_health() {
         (1, 1, Health::NotUsable),
         (3, 1, Health::Usable),
     ] {
-        station.reset(1).unwrap();
+        station.reset(ONE, 1).unwrap();
         take_all(&mut station, 1, 100, &almanac(5, c, day));
-        assert_eq!(station.health(0), Ok(expected));
+        assert_eq!(station.health(ONE, 0), Ok(expected));
     }
 }
 
@@ -208,18 +209,18 @@ fn a_new_record_changes_the_health_and_a_reset_takes_it() {
     let mut station = Station::default();
     take_all(&mut station, 1, 100, &almanac(5, 1, 1));
     take_all(&mut station, 0, 100, &strings_1_to_4(0, 5));
-    assert_eq!(station.health(0), Ok(Health::Usable));
+    assert_eq!(station.health(ONE, 0), Ok(Health::Usable));
     take_all(&mut station, 0, 115, &strings_1_to_4(4, 5));
-    assert_eq!(station.health(0), Ok(Health::NotUsable));
-    station.reset(0).unwrap();
-    assert_eq!(station.health(0), Ok(Health::Unknown));
+    assert_eq!(station.health(ONE, 0), Ok(Health::NotUsable));
+    station.reset(ONE, 0).unwrap();
+    assert_eq!(station.health(ONE, 0), Ok(Health::Unknown));
 }
 
 /// The received frame is of satellite 11 and shows the almanac of 16 to 20.
 #[test]
 fn the_received_frame_alone_leaves_its_satellite_unknown() {
     let mut station = station_with_received_frame(0);
-    assert_eq!(station.health(0), Ok(Health::Unknown));
+    assert_eq!(station.health(ONE, 0), Ok(Health::Unknown));
     take_all(&mut station, 1, 100, &almanac(11, 1, 1));
-    assert_eq!(station.health(0), Ok(Health::Usable));
+    assert_eq!(station.health(ONE, 0), Ok(Health::Usable));
 }

@@ -39,7 +39,7 @@ fn the_papers_example() {
     input.extend([0x18, 0, 0, 0, 7]);
     input.extend(B);
     input.extend([1, 2, 3]);
-    assert_eq!(lines(&input), "0 100 0 0 1 1\n24 7 1 0 0 0\nshort 3\n");
+    assert_eq!(lines(&input), "0 100 0 0 1 1\n24 7 15 0 0 0\nshort 3\n");
 }
 
 #[test]
@@ -51,7 +51,8 @@ fn no_input_prints_nothing() {
 }
 
 /// Every string but the damaged ones has bit 20 flipped; the first and the last are
-/// taken and the others are refused with 1 to 9, in the position of 3 with 31 to 33.
+/// taken and the others are refused with 1, 15, and 2 to 9, in the position of 3 with 31
+/// to 33.
 fn records_of_every_number() -> Vec<Vec<u8>> {
     let string = string_1(1);
     let flipped = |string: &NavString| string.flipped(&[20]);
@@ -59,7 +60,8 @@ fn records_of_every_number() -> Vec<Vec<u8>> {
     shape[15] |= 1;
     vec![
         record(0, 100, &flipped(&string)),
-        record(99, 100, &flipped(&string)),
+        record(48, 100, &flipped(&string)),
+        record(47, 100, &flipped(&string)),
         shape,
         record(0, 100, &string.flipped(&[8])),
         record(0, 100, &string.flipped(&[20, 21])),
@@ -77,7 +79,8 @@ fn records_of_every_number() -> Vec<Vec<u8>> {
 #[test]
 fn the_repaired_bit_shows_from_5_on_and_m_from_6_on() {
     let expected = "0 100 0 20 1 0
-99 100 1 0 0 0
+48 100 1 0 0 0
+47 100 15 0 0 0
 0 100 2 0 0 0
 0 100 31 0 0 0
 0 100 32 0 0 0
@@ -145,7 +148,7 @@ fn require_every_number(input: &[u8]) {
         let has_number = |line: &str| line.split(' ').nth(2) == Some(&number.to_string());
         lines.lines().any(has_number)
     };
-    for number in [0, 1, 2, 31, 32, 33].into_iter().chain(4..=9) {
+    for number in [0, 1, 15, 2, 31, 32, 33].into_iter().chain(4..=9) {
         assert!(has(number), "{number}");
     }
     assert!(!has(3));

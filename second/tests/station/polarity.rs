@@ -7,6 +7,7 @@ use second::hamming::Verdict;
 use second::random::SplitMix64;
 use second::refusal::Refusal;
 use second::relative::{to_relative, Polarity};
+use second::station::card::ONE;
 use second::station::row::{News, Taken};
 use second::station::Station;
 use second::string::NavString;
@@ -84,7 +85,7 @@ fn answers_in_both(before: &[NavString], string: &NavString) -> [Result<Taken, R
     [symbols, symbols.inverted()].map(|symbols| {
         let mut station = Station::default();
         take_all(&mut station, 0, 1000, before);
-        station.offer(0, 1000, &symbols.to_bytes())
+        station.offer(ONE, 0, 1000, &symbols.to_bytes())
     })
 }
 

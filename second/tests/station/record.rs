@@ -2,6 +2,7 @@
 
 use second::known::received_frame;
 use second::refusal::Refusal;
+use second::station::card::ONE;
 use second::station::row::News;
 use second::station::Station;
 use second::string::NavString;
@@ -10,7 +11,7 @@ use second::words::kinds::{STRING_2, TK};
 use crate::strings::*;
 
 fn x_of_record(station: &Station) -> Result<i64, Refusal> {
-    station.immediate(0).map(|record| record.words[4])
+    station.immediate(ONE, 0).map(|record| record.words[4])
 }
 
 #[test]
@@ -25,7 +26,7 @@ fn the_string_that_completes_the_four_builds_the_record() {
         }
         let news = offer_in_frame(&mut station, 0, 30, &last);
         assert_eq!(news, Ok(News::RecordBuilt));
-        assert!(station.immediate(0).is_ok());
+        assert!(station.immediate(ONE, 0).is_ok());
     }
 }
 
@@ -38,7 +39,7 @@ fn no_record_before_the_fourth_string() {
             take_all(&mut station, 0, 30, &[strings[index]]);
         }
         take_all(&mut station, 0, 30, &[string_5(1, 1)]);
-        assert_eq!(station.immediate(0), Err(Refusal::Nothing));
+        assert_eq!(station.immediate(ONE, 0), Err(Refusal::Nothing));
     }
 }
 
@@ -47,7 +48,7 @@ fn a_record_is_of_one_frame() {
     let mut station = Station::default();
     take_all(&mut station, 0, 30, &[string_1(0), string_2(0)]);
     take_all(&mut station, 0, 45, &[string_3(), string_4(1)]);
-    assert_eq!(station.immediate(0), Err(Refusal::Nothing));
+    assert_eq!(station.immediate(ONE, 0), Err(Refusal::Nothing));
 }
 
 #[test]
@@ -59,8 +60,8 @@ fn the_words_of_the_received_frame() {
         vec![1, 0, 3, 0, 2002605, -2, 40188871],
         vec![-29136, 8, 0, 1, 3, 104, 11, 1],
     ];
-    assert_eq!(station.immediate(3).unwrap().words, words.concat());
-    assert_eq!(station.immediate(4), Err(Refusal::Nothing));
+    assert_eq!(station.immediate(ONE, 3).unwrap().words, words.concat());
+    assert_eq!(station.immediate(ONE, 4), Err(Refusal::Nothing));
 }
 
 /// Wrong tk: hour 24, minute 60. Wrong tb: 0 and 96.
@@ -104,7 +105,7 @@ fn four_strings_out_of_range_build_no_first_record() {
     );
     let answer = offer_in_frame(&mut station, 0, 30, &string_4(1));
     assert_eq!(answer, Ok(News::RecordOutOfRange));
-    assert_eq!(station.immediate(0), Err(Refusal::Nothing));
+    assert_eq!(station.immediate(ONE, 0), Err(Refusal::Nothing));
 }
 
 #[test]
@@ -137,9 +138,9 @@ fn the_next_frame_replaces_the_record() {
 #[test]
 fn a_reset_takes_the_record() {
     let mut station = station_with_received_frame(0);
-    assert!(station.immediate(0).is_ok());
-    assert_eq!(station.reset(0), Ok(()));
-    assert_eq!(station.immediate(0), Err(Refusal::Nothing));
+    assert!(station.immediate(ONE, 0).is_ok());
+    assert_eq!(station.reset(ONE, 0), Ok(()));
+    assert_eq!(station.immediate(ONE, 0), Err(Refusal::Nothing));
     take_all(&mut station, 0, 5, &received_frame());
-    assert!(station.immediate(0).is_ok());
+    assert!(station.immediate(ONE, 0).is_ok());
 }

@@ -3,6 +3,7 @@
 use second::known::{B_DAMAGED, FLIPS_TAKEN_FOR_BIT_85, FLIPS_THAT_DAMAGE};
 use second::refusal::Refusal;
 use second::relative::to_relative;
+use second::station::card::ONE;
 use second::station::Station;
 use second::string::NavString;
 
@@ -23,17 +24,16 @@ fn padded(string: &NavString) -> Vec<u8> {
 /// Each offer has one wrong less than the one before; the damaged ones differ in
 /// their cause.
 #[test]
-fn an_offer_is_refused_in_the_order_1_to_9() {
+fn an_offer_is_refused_in_the_order_16_1_15_2_to_9() {
     let mut station = held();
     let no_number = with_m(&string_1(2), 0);
     let idle = no_number.flipped(&FLIPS_TAKEN_FOR_BIT_85);
     for (number, flips) in FLIPS_THAT_DAMAGE {
         let damaged = no_number.flipped(flips);
-        assert_eq!(
-            station.offer(24, 0, &padded(&damaged)),
-            Err(Refusal::Channel)
-        );
-        assert_eq!(station.offer(0, 0, &padded(&damaged)), Err(Refusal::Shape));
+        for (card, channel, number) in [(3, 48, 16), (ONE, 48, 1), (ONE, 24, 15), (ONE, 0, 2)] {
+            let answer = station.offer(card, channel, 0, &padded(&damaged));
+            assert_eq!(answer.map_err(Refusal::number), Err(number));
+        }
         let answer = offer(&mut station, 0, 0, &damaged);
         assert_eq!(answer.map_err(Refusal::number), Err(number));
     }
@@ -57,10 +57,10 @@ fn damaged_strings_have_their_own_numbers_in_either_polarity() {
     for (number, symbols) in B_DAMAGED {
         let inverted = NavString::from_bytes(&symbols).unwrap().inverted();
         for symbols in [symbols, inverted.to_bytes()] {
-            let answer = Station::default().offer(0, 100, &symbols);
+            let answer = Station::default().offer(ONE, 0, 100, &symbols);
             assert_eq!(answer.map_err(Refusal::number), Err(number));
             for epoch in [1000, 0, 900, 1007, 1015, u32::MAX] {
-                let answer = held().offer(0, epoch, &symbols);
+                let answer = held().offer(ONE, 0, epoch, &symbols);
                 assert_eq!(answer.map_err(Refusal::number), Err(number));
             }
         }
@@ -88,7 +88,7 @@ fn every_flip_on_the_line_is_taken_but_bit_8_and_every_two_are_32() {
 #[test]
 fn wrong_lengths_are_shape() {
     for length in (0..30).filter(|&length| length != 11) {
-        let answer = held().offer(0, 1000, &vec![0; length]);
+        let answer = held().offer(ONE, 0, 1000, &vec![0; length]);
         assert_eq!(answer, Err(Refusal::Shape));
     }
 }
@@ -96,7 +96,7 @@ fn wrong_lengths_are_shape() {
 #[test]
 fn eleven_zero_bytes_have_no_number() {
     for symbols in [[0; 11], zero_symbols_inverted()] {
-        assert_eq!(held().offer(0, 1000, &symbols), Err(Refusal::Number));
+        assert_eq!(held().offer(ONE, 0, 1000, &symbols), Err(Refusal::Number));
     }
 }
 
@@ -119,7 +119,7 @@ fn a_refused_string_changes_nothing_but_tallies() {
     for (epoch, string) in refused {
         let mut station = held();
         assert!(offer(&mut station, 0, epoch, &string).is_err());
-        assert_eq!(station.tallies(0).unwrap().refused, 1);
+        assert_eq!(station.tallies(ONE, 0).unwrap().refused, 1);
         // What stays is told by what is taken next.
         assert!(offer_in_frame(&mut station, 0, 1000, &string_1(1)).is_ok());
         assert!(offer_in_frame(&mut station, 0, 1000, &string_3()).is_ok());
@@ -134,11 +134,11 @@ fn a_refused_string_changes_nothing_but_tallies() {
 fn calls_on_a_wrong_channel_are_refused() {
     let mut station = held();
     let before = station.clone();
-    for channel in [24, 25, 127, 255] {
-        assert_eq!(station.reset(channel), Err(Refusal::Channel));
-        assert_eq!(station.immediate(channel), Err(Refusal::Channel));
-        assert_eq!(station.tallies(channel), Err(Refusal::Channel));
-        assert_eq!(station.health(channel), Err(Refusal::Channel));
+    for channel in [48, 49, 127, 255] {
+        assert_eq!(station.reset(ONE, channel), Err(Refusal::Channel));
+        assert_eq!(station.immediate(ONE, channel), Err(Refusal::Channel));
+        assert_eq!(station.tallies(ONE, channel), Err(Refusal::Channel));
+        assert_eq!(station.health(ONE, channel), Err(Refusal::Channel));
     }
     assert_eq!(station, before);
 }
@@ -147,9 +147,9 @@ fn calls_on_a_wrong_channel_are_refused() {
 fn a_wrong_slot_comes_before_nothing() {
     let station = Station::default();
     for slot in [0, 25, 26, 255] {
-        assert_eq!(station.entry(slot), Err(Refusal::Slot));
+        assert_eq!(station.entry(ONE, slot), Err(Refusal::Slot));
     }
     for slot in 1..=24 {
-        assert_eq!(station.entry(slot), Err(Refusal::Nothing));
+        assert_eq!(station.entry(ONE, slot), Err(Refusal::Nothing));
     }
 }

@@ -4,6 +4,7 @@ pub use second::alter::{with_bit_inverted, with_code, with_m};
 use second::known::received_frame;
 use second::refusal::Refusal;
 use second::relative::to_relative;
+use second::station::card::ONE;
 use second::station::row::{News, Taken};
 use second::station::Station;
 use second::string::NavString;
@@ -65,7 +66,7 @@ pub fn offer(
     string: &NavString,
 ) -> Result<Taken, Refusal> {
     let symbols = to_relative(string).unwrap();
-    station.offer(channel, epoch, &symbols.to_bytes())
+    station.offer(ONE, channel, epoch, &symbols.to_bytes())
 }
 
 /// Offers a string as one of the frame with this start.
@@ -81,15 +82,28 @@ pub fn offer_in_frame(
 
 /// Offers strings that the station takes.
 pub fn take_all(station: &mut Station, channel: usize, start: u32, strings: &[NavString]) {
+    take_all_by(ONE, station, channel, start, strings);
+}
+
+/// The same, offered by this card.
+pub fn take_all_by(
+    card: u8,
+    station: &mut Station,
+    channel: usize,
+    start: u32,
+    strings: &[NavString],
+) {
     for string in strings {
-        let answer = offer_in_frame(station, channel, start, string);
+        let symbols = to_relative(string).unwrap().to_bytes();
+        let epoch = start + (string.m() as u32 - 1);
+        let answer = station.offer(card, channel, epoch, &symbols);
         assert!(answer.is_ok(), "string {}: {answer:?}", string.m());
     }
 }
 
 /// Offers three strings in one frame on a channel that holds nothing else.
 pub fn show(station: &mut Station, channel: usize, strings: &[NavString]) {
-    station.reset(channel).unwrap();
+    station.reset(ONE, channel).unwrap();
     take_all(station, channel, 100, strings);
 }
 

@@ -5,6 +5,7 @@ use std::collections::{HashMap, HashSet};
 
 use second::random::SplitMix64;
 use second::station::book::Summary;
+use second::station::card::ONE;
 use second::station::Station;
 use second::string::NavString;
 
@@ -21,6 +22,10 @@ fn summary_of(count: usize, oldest: i64, newest: i64) -> Summary {
     }
 }
 
+fn summary(station: &Station) -> Summary {
+    station.summary(ONE).unwrap()
+}
+
 /// Counted from the days of all entries that there are.
 pub fn counted(days: impl Iterator<Item = i64>) -> Summary {
     let mut days: Vec<i64> = days.collect();
@@ -34,7 +39,7 @@ pub fn counted(days: impl Iterator<Item = i64>) -> Summary {
 
 /// Counted from what the station answers for each slot.
 fn counted_by_slots(station: &Station) -> Summary {
-    let entries = (1..=24).filter_map(|slot| station.entry(slot).ok());
+    let entries = (1..=24).filter_map(|slot| station.entry(ONE, slot).ok());
     counted(entries.map(|entry| entry.day))
 }
 
@@ -48,17 +53,17 @@ fn require_summaries(steps: &[([i64; 3], Summary)]) {
     let mut station = Station::default();
     for ([slot, day, epsilon], expected) in steps {
         show(&mut station, 0, &entry(*slot, *day, *epsilon));
-        assert_eq!(station.summary(), *expected, "slot {slot}, day {day}");
+        assert_eq!(summary(&station), *expected, "slot {slot}, day {day}");
     }
 }
 
 #[test]
 fn an_empty_book_has_nothing_and_both_days_0() {
     let mut station = Station::default();
-    assert_eq!(station.summary(), summary_of(0, 0, 0));
+    assert_eq!(summary(&station), summary_of(0, 0, 0));
     take_all(&mut station, 0, 100, &strings_1_to_4(0, 1));
     take_all(&mut station, 0, 100, &entry(3, 10, 0)[..2]);
-    assert_eq!(station.summary(), summary_of(0, 0, 0));
+    assert_eq!(summary(&station), summary_of(0, 0, 0));
 }
 
 #[test]
@@ -130,7 +135,7 @@ fn the_least_and_the_greatest_day() {
             &[string_5(period, day), even(6, slot, 1, 0), odd(7, 0, 0)],
         );
     }
-    assert_eq!(station.summary(), summary_of(2, 1, 45_291));
+    assert_eq!(summary(&station), summary_of(2, 1, 45_291));
 }
 
 /// String 5 comes last.
@@ -138,17 +143,17 @@ fn the_least_and_the_greatest_day() {
 fn five_entries_shown_at_once() {
     let mut station = Station::default();
     take_all(&mut station, 0, 100, &five_pairs(6));
-    assert_eq!(station.summary(), summary_of(0, 0, 0));
+    assert_eq!(summary(&station), summary_of(0, 0, 0));
     take_all(&mut station, 0, 100, &[string_5(1, 10)]);
-    assert_eq!(station.summary(), summary_of(5, 10, 10));
+    assert_eq!(summary(&station), summary_of(5, 10, 10));
 }
 
 #[test]
 fn the_summary_stays_after_resets() {
     let mut station = station_with_received_frame(3);
     for channel in 0..24 {
-        station.reset(channel).unwrap();
-        assert_eq!(station.summary(), summary_of(5, 7409, 7409));
+        station.reset(ONE, channel).unwrap();
+        assert_eq!(summary(&station), summary_of(5, 7409, 7409));
     }
 }
 
@@ -162,7 +167,7 @@ fn the_summary_is_what_the_slots_tell_after_every_call() {
             // What it answers makes no difference here.
             let _ = call.answer(&mut station);
             let expected = counted_by_slots(&station);
-            assert_eq!(station.summary(), expected, "history {seed}, call {index}");
+            assert_eq!(summary(&station), expected, "history {seed}, call {index}");
         }
     }
 }
@@ -179,11 +184,11 @@ fn the_summary_is_what_was_shown() {
             let slot = random.one_of(&[1, 2, 12, 23, 24]);
             let [day, epsilon, channel] = [8, 3, 24].map(|limit| random.below(limit));
             let day = 1 + day as i64;
-            let before = station.summary();
+            let before = summary(&station);
             show(&mut station, channel, &entry(slot, day, epsilon as i64));
             let kept = newest.entry(slot).or_insert(day);
             *kept = day.max(*kept);
-            let after = station.summary();
+            let after = summary(&station);
             assert_eq!(after, counted(newest.values().copied()), "history {seed}");
             changes.insert(change(before, after));
         }

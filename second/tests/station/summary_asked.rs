@@ -7,6 +7,7 @@ use std::mem;
 use second::make;
 use second::request::{pieces, Piece, Request, BLOCK, FRESH, OFFER, RESET, SUMMARY};
 use second::station::book::{Entry, Summary};
+use second::station::card::ONE;
 use second::station::Station;
 use second::trial::answer_piece;
 
@@ -27,7 +28,7 @@ struct Asked {
 }
 
 fn book_of(station: &Station) -> Book {
-    (1..=24).map(|slot| station.entry(slot).ok()).collect()
+    (1..=24).map(|slot| station.entry(ONE, slot).ok()).collect()
 }
 
 fn days_of(book: &Book) -> Vec<Option<i64>> {
@@ -50,21 +51,23 @@ struct Alone(Vec<Station>);
 
 impl Alone {
     fn new() -> Alone {
-        Alone(vec![Station::default(); 24])
+        Alone(vec![Station::default(); 48])
     }
 
     /// The entries that this call has shown.
-    fn hear(&mut self, request: Request, line: &str) -> Vec<(usize, Entry)> {
+    fn hear(&mut self, card: u8, request: Request, line: &str) -> Vec<(usize, Entry)> {
         match (request.op, request.payload) {
             (OFFER, [channel, e0, e1, e2, e3, symbols @ ..]) if is_new(line) => {
                 let station = &mut self.0[usize::from(*channel)];
                 let before = book_of(station);
                 let epoch = u32::from_be_bytes([*e0, *e1, *e2, *e3]);
-                let answer = station.offer(usize::from(*channel), epoch, symbols);
+                let answer = station.offer(card, usize::from(*channel), epoch, symbols);
                 assert!(answer.is_ok());
                 return entries_that_differ(before, book_of(station));
             }
-            (RESET, [channel @ 0..24]) => self.0[usize::from(*channel)] = Station::default(),
+            (RESET, [channel]) if line == "ok" => {
+                self.0[usize::from(*channel)] = Station::default();
+            }
             (FRESH, []) | (BLOCK, _) => *self = Alone::new(),
             _ => (),
         }
@@ -108,9 +111,10 @@ fn all_asked() -> Vec<Asked> {
         let Piece::Whole(request) = piece else {
             continue;
         };
-        shown.extend(alone.hear(request, &line));
+        let (card, request) = request.asked_by().unwrap_or((ONE, request));
+        shown.extend(alone.hear(card, request, &line));
         match (request.op, request.payload) {
-            (SUMMARY, []) => {
+            (SUMMARY, []) if line.starts_with("ok ") => {
                 let after = book_of(&station);
                 found.push(Asked {
                     calls: mem::take(&mut calls),
@@ -250,7 +254,7 @@ fn the_summary_is_asked_where_the_bits_are_greater_and_the_days_stay() {
 fn the_summary_is_asked_after_calls_that_leave_the_book() {
     let mut all = all_asked();
     all.retain(|asked| !is_empty(&asked.before));
-    let refused = [1, 2, 31, 32, 33].into_iter().chain(4..=9);
+    let refused = [15, 2, 31, 32, 33].into_iter().chain(4..=9);
     let refused = refused.map(|number| format!("no {number}"));
     for line in refused.chain([String::from(HELD_ALREADY)]) {
         let alone = |asked: &Asked| asked.is_unchanged_by(OFFER, &line);
@@ -261,8 +265,10 @@ fn the_summary_is_asked_after_calls_that_leave_the_book() {
     for (op, line) in [
         (RESET, "ok"),
         (RESET, "no 1"),
+        (RESET, "no 15"),
         (BLOCK, "ok\nend"),
         (BLOCK, "no 1\nend"),
+        (BLOCK, "no 15\nend"),
         (BLOCK, "end"),
     ] {
         let asked = |asked: &Asked| asked.is_unchanged_by(op, line);

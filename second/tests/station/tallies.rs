@@ -4,6 +4,7 @@ use second::hamming::Verdict;
 use second::known::FLIPS_TAKEN_FOR_BIT_85;
 use second::refusal::Refusal;
 use second::relative::to_relative;
+use second::station::card::ONE;
 use second::station::tallies::Tallies;
 use second::station::Station;
 use second::string::NavString;
@@ -17,7 +18,7 @@ const LIMIT: u32 = 4_294_967_295;
 const CAUSES: [u8; 10] = [2, 31, 32, 33, 4, 5, 6, 7, 8, 9];
 
 fn counts(station: &Station, channel: usize) -> [u32; 4] {
-    let tallies = station.tallies(channel).unwrap();
+    let tallies = station.tallies(ONE, channel).unwrap();
     [
         tallies.offered,
         tallies.clean,
@@ -27,7 +28,7 @@ fn counts(station: &Station, channel: usize) -> [u32; 4] {
 }
 
 fn by_cause(station: &Station, channel: usize) -> [u32; 10] {
-    station.tallies(channel).unwrap().by_cause
+    station.tallies(ONE, channel).unwrap().by_cause
 }
 
 #[test]
@@ -81,7 +82,7 @@ fn every_refusal_from_2_to_9_counts_for_its_own_cause() {
     for count in 1..=40 {
         let index = 7 * count % 10;
         let (number, epoch, symbols) = &offers[index];
-        let answer = station.offer(0, *epoch, symbols);
+        let answer = station.offer(ONE, 0, *epoch, symbols);
         assert_eq!(answer.map_err(Refusal::number), Err(*number));
         causes[index] += 1;
         let count = count as u32;
@@ -94,7 +95,7 @@ fn every_refusal_from_2_to_9_counts_for_its_own_cause() {
 #[test]
 fn a_wrong_channel_counts_nowhere() {
     let mut station = Station::default();
-    for channel in [24, 25, 255] {
+    for channel in [24, 47, 48, 255] {
         assert!(offer(&mut station, channel, 100, &string_1(1)).is_err());
     }
     assert_eq!(station, Station::default());
@@ -107,8 +108,8 @@ fn a_reset_counts_from_zero_on_its_channel_alone() {
         take_all(&mut station, channel, 100, &[string_1(1), string_3()]);
         assert!(offer(&mut station, channel, 99, &string_1(1)).is_err());
     }
-    station.reset(0).unwrap();
-    assert_eq!(station.tallies(0), Ok(Tallies::default()));
+    station.reset(ONE, 0).unwrap();
+    assert_eq!(station.tallies(ONE, 0), Ok(Tallies::default()));
     assert_eq!(counts(&station, 1), [3, 2, 0, 1]);
     assert_eq!(by_cause(&station, 1), [0, 0, 0, 0, 0, 0, 0, 1, 0, 0]);
 }
@@ -147,8 +148,7 @@ fn tallies_are_the_counts_of_the_history_and_the_ten_add_up_to_refused() {
         let mut counted = vec![Counted::default(); 24];
         for call in history(seed) {
             let answer = call.answer(&mut station);
-            let (Call::Offer { channel, .. } | Call::Reset { channel }) = call;
-            let channel = usize::from(channel);
+            let channel = usize::from(call.channel());
             let Some(row) = counted.get_mut(channel) else {
                 continue;
             };
@@ -189,7 +189,7 @@ fn every_tally_stays_at_its_limit() {
         let mut station = Station::with_tallies_at(LIMIT - 3);
         take_all(&mut station, 0, 100, &[string_1(1)]);
         for left in [2, 1, 0, 0, 0] {
-            let answer = station.offer(0, epoch, &symbols);
+            let answer = station.offer(ONE, 0, epoch, &symbols);
             assert_eq!(answer.map_err(Refusal::number), Err(number));
             let mut causes = [LIMIT - 3; 10];
             causes[index] = LIMIT - left;
@@ -215,9 +215,9 @@ fn every_tally_stays_at_its_limit() {
 #[test]
 fn a_reset_counts_from_zero_after_the_limit() {
     let mut station = Station::with_tallies_at(LIMIT);
-    station.reset(0).unwrap();
+    station.reset(ONE, 0).unwrap();
     take_all(&mut station, 0, 100, &[string_1(1)]);
     assert_eq!(counts(&station, 0), [1, 1, 0, 0]);
     assert_eq!(by_cause(&station, 0), [0; 10]);
-    assert_eq!(station.tallies(1), Ok(Tallies::all_at(LIMIT)));
+    assert_eq!(station.tallies(ONE, 1), Ok(Tallies::all_at(LIMIT)));
 }

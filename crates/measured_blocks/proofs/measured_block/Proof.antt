@@ -1,4 +1,4 @@
--- `measured_block` meets its contract: the block is handed to a fresh station. Assumes nothing.
+-- `measured_block` meets its contract: the block is handed to a fresh station by card one. Assumes nothing.
 use mathlib.Core.Path.{ap, _∙_}
 use borrow.Author.Needs.{needs}
 use Rattle.book.specs.Book.{inSlot}
@@ -21,7 +21,7 @@ returns : tie.Need-returns
 returns c =
     let h = c .before .before in
     let block = h .before .before .before .args .block .now in
-    let fresh = ap (λ (x : Station). afterCalls x (callsIn block)) (h .before .fresh .ensures) in
+    let fresh = ap (λ (x : Station). afterCalls x 1 (callsIn block)) (h .before .fresh .ensures) in
     c .top-of-slot-1 .ensures ∙ ap (λ (x : Station). inSlot (x .book) 1 .etop) (h .hand-over .ensures .station ∙ fresh)
 
 pub measured-block-spec : {M : Type 1} → statement M

@@ -9,6 +9,7 @@ use crate::request::{ENTRY, FRESH, HEALTH, IMMEDIATE, OFFER, RESET, TALLIES};
 use crate::station::book::SLOTS;
 use crate::string::{NavString, BYTES};
 
+/// For card one: those of card two, and those that there are not.
 pub(super) const WRONG_CHANNELS: [u8; 6] = [24, 25, 32, 127, 128, 255];
 pub(super) const WRONG_SLOTS: [usize; 6] = [0, 25, 32, 127, 128, 255];
 

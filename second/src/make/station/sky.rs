@@ -5,7 +5,7 @@ use super::super::Input;
 use crate::listing::Record;
 use crate::request::ENTRY;
 use crate::station::book::SLOTS;
-use crate::station::CHANNELS;
+use crate::station::card::CHANNELS_OF_A_CARD;
 
 pub(super) fn add_all(input: &mut Input) {
     input.all_channels(4000);
@@ -22,10 +22,10 @@ impl Input {
     /// A steady run; a few questions on the way, all of them at the end.
     fn all_channels(&mut self, count: usize) {
         self.fresh();
-        for record in self.feed(CHANNELS).take(count) {
+        for record in self.feed(CHANNELS_OF_A_CARD).take(count) {
             self.offer_record(&record);
             if self.random.below(16) == 0 {
-                self.ask_something(CHANNELS);
+                self.ask_something(CHANNELS_OF_A_CARD);
             }
         }
         self.ask_all();
@@ -64,19 +64,23 @@ impl Input {
 
     /// The same offers to two stations, the second time with neighbours exchanged.
     fn calls_exchanged(&mut self, count: usize) {
-        let mut records: Vec<Record> = self.feed(CHANNELS).skip(2000).take(count).collect();
+        let mut records: Vec<Record> = self
+            .feed(CHANNELS_OF_A_CARD)
+            .skip(2000)
+            .take(count)
+            .collect();
         self.offer_to_fresh_station(&records);
-        self.exchange_neighbours(&mut records);
+        self.exchange_neighbours(&mut records, |record| record.channel);
         self.offer_to_fresh_station(&records);
     }
 
     /// Those on different channels change places, again and again.
-    pub(super) fn exchange_neighbours(&mut self, records: &mut [Record]) {
-        let count = records.len();
+    pub(super) fn exchange_neighbours<T>(&mut self, calls: &mut [T], channel: fn(&T) -> u8) {
+        let count = calls.len();
         for _ in 0..20 * count {
             let first = self.random.below(count - 1);
-            if records[first].channel != records[first + 1].channel {
-                records.swap(first, first + 1);
+            if channel(&calls[first]) != channel(&calls[first + 1]) {
+                calls.swap(first, first + 1);
             }
         }
     }

@@ -14,7 +14,7 @@ use crate::block::field;
 use crate::listing::Record;
 use crate::request::SUMMARY;
 use crate::station::book::SLOTS;
-use crate::station::CHANNELS;
+use crate::station::card::CHANNELS_OF_A_CARD;
 use crate::words::kinds::{ALMANAC_C, ALMANAC_DAY, ALMANAC_SLOT, H};
 
 pub(in super::super) fn add_all(input: &mut Input) {
@@ -241,12 +241,12 @@ impl Input {
         self.summary_after(&calls.concat());
     }
 
-    /// Of the one that has filled the book, of others, of channels that there are not; then
+    /// Of the one that has filled the book, of others, of channels that are not its card's; then
     /// an earlier frame.
     fn resets_of_every_channel(&mut self) {
         let (frame, earlier) = (self.frame(3), self.frame(4));
         let mut calls = self.offers(7, NEXT_START, &frame);
-        let channels = (0..CHANNELS as u8).chain(WRONG_CHANNELS);
+        let channels = (0..CHANNELS_OF_A_CARD as u8).chain(WRONG_CHANNELS);
         calls.extend(channels.map(|channel| Call::Reset { channel }));
         calls.extend(self.offers(7, SOME_START, &earlier));
         self.summary_after(&calls);
@@ -281,7 +281,7 @@ impl Input {
                 let slot = self.random.one_of(&[1, 2, SLOTS]);
                 let day = self.random.one_of(&[FIRST, SECOND, THIRD, FOURTH, FIFTH]);
                 let three = dated(self.three(slot), day);
-                let channel = self.random.below(CHANNELS) as u8;
+                let channel = self.random.below(CHANNELS_OF_A_CARD) as u8;
                 self.show(channel, &three);
                 self.ask_summary();
             }
@@ -305,7 +305,7 @@ impl Input {
                 self.offer_record(record);
             }
             self.ask_summary();
-            self.exchange_neighbours(&mut records);
+            self.exchange_neighbours(&mut records, |record| record.channel);
         }
     }
 

@@ -10,13 +10,13 @@ use Rattle.blocks.proofs.handing.hand_over.Statement.{statement}
 use Rattle.blocks.proofs.handing.hand_over.Tie as tie
 
 abbrev Inv-loop : tie.InvT-loop
-Inv-loop block next₀ at₀ next at = So-far next₀ block next at
+Inv-loop card block next₀ at₀ next at = So-far next₀ card block next at
 
 abbrev μ-loop : tie.MeasureT-loop
-μ-loop block next₀ at₀ next at = length block - at
+μ-loop card block next₀ at₀ next at = length block - at
 
 loop-holds : tie.Need-loop-holds Inv-loop μ-loop
-loop-holds c = so-far-none _ _
+loop-holds c = so-far-none _ _ _
 
 take-field-requires : tie.Need-take-field-requires Inv-loop μ-loop
 take-field-requires c κs = search needs

@@ -22,8 +22,8 @@ returns c =
     let s = o .before in
     let e = s .before in
     let a = e .before .before .before in
-    makes-offer (a .args .st) (a .args .body .now) (o .offer .result) (e .before .channel-in .ensures) (e .epoch-in .ensures) (s .symbols-in .ensures)
-    (o .offer .ensures)
+    makes-offer (a .args .st) (a .args .card) (a .args .body .now) (o .offer .result) (e .before .channel-in .ensures) (e .epoch-in .ensures)
+    (s .symbols-in .ensures) (o .offer .ensures)
 
 pub offer-field-spec : {M : Type 1} → statement M
 offer-field-spec =

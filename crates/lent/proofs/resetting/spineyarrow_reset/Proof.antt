@@ -77,36 +77,36 @@ use Rattle.lent.proofs.resetting.spineyarrow_reset.Statement as stated
 use Rattle.lent.proofs.resetting.spineyarrow_reset.Code as code
 
 abbrev stayed : Stays (lent.ended .signature .params) (lent.ended .kept)
-stayed = (stay-ref (0 ∷ []) tt (plain (λ _. ST.the-row)), (stay-dropped (plain (λ _. u8)) yes, tt))
+stayed = (stay-ref (0 ∷ []) tt (plain (λ _. ST.the-row)), (stay-dropped (plain (λ _. u8)) yes, (stay-dropped (plain (λ _. u8)) yes, tt)))
 
 -- ---- the contract, from what became of the row
-refused-lent : (st : Station) (c r : ℕ) → r ≡ firstOf (gateTests c) → T (ltb 0 r) → ResetsLent st c st r
-refused-lent st c r er t =
-    let p = shut-out c r er t in
+refused-lent : (st : Station) (card c r : ℕ) → r ≡ firstOf (gateTests card c) → T (ltb 0 r) → ResetsLent st card c st r
+refused-lent st card c r er t =
+    let p = shut-out card c r er t in
     let alone : r ≡ packed (r ∷ []) = omega arith in
-    record { answer = alone ∙ ap packed (sym (p .1)); station = sym (reset-none st c (p .0)) }
+    record { answer = alone ∙ ap packed (sym (p .1)); station = sym (reset-none st card c (p .0)) }
 
-emptied-lent : (st : Station) (c : ℕ) (r : Row) → isServed c ≡ true → r ≡ emptyRow → ResetsLent st c (withRow st c r) 0
+emptied-lent : (st : Station) (card c : ℕ) (r : Row) → isServed card c ≡ true → r ≡ emptyRow → ResetsLent st card c (withRow st c r) 0
 unfolding stationReset
-emptied-lent st c r n e = record { answer = ap packed (sym (open-says c [] [] n)); station = rw (n, e) refl }
+emptied-lent st card c r n e = record { answer = ap packed (sym (open-says card c [] [] n)); station = rw (n, e) refl }
 
 module _ {M : Type 1} (𝓤 : URA M) (H : Heap 𝓤) (A : Atoms 𝓤) (mem : Memory → SProp 𝓤) (run : Routine → Fun 𝓤) where
   -- the contract that the proof cites
   abbrev Empty : Contract 𝓤
   Empty = tripleOf 𝓤 H A empty′.signature (empty′.spec 𝓤 H A mem run)
 
-module _ {M : Type 1} (𝓤 : URA M) (H : Heap 𝓤) (A : Atoms 𝓤) (W : Given 𝓤 H A) (at-mem : Memory → SProp 𝓤) (run : Routine → Fun 𝓤) (κ : Lft) (q : Share) (b o : ℕ) (γ : GName) (h : Station) (c : ℕ) where
+module _ {M : Type 1} (𝓤 : URA M) (H : Heap 𝓤) (A : Atoms 𝓤) (W : Given 𝓤 H A) (at-mem : Memory → SProp 𝓤) (run : Routine → Fun 𝓤) (κ : Lft) (q : Share) (b o : ℕ) (γ : GName) (h : Station) (card c : ℕ) where
   abbrev ref-at : Station → RefT Station
   ref-at st = record { ptr = (b, o); name = γ; now = st }
 
   abbrev Ref : Station → Item 𝓤
   Ref st = ‵ (MutRef (named 0) κ ST.the-row .own (ref-at st) (vptr b o ∷ []))
 
-  abbrev x : RefT Station × (ℕ × Unit {0})
-  x = (ref-at h, (c, tt))
+  abbrev x : RefT Station × (ℕ × (ℕ × Unit {0}))
+  x = (ref-at h, (card, (c, tt)))
 
   abbrev at : Vals lent.signature (κ, tt)
-  at = (vptr b o ∷ [], (vint w8 c ∷ [], tt))
+  at = (vptr b o ∷ [], (vint w8 card ∷ [], (vint w8 c ∷ [], tt)))
 
   abbrev Post : Val → SProp 𝓤
   Post = walkOf 𝓤 H A lent.ended stayed (lent.clauses 𝓤 H A at-mem run) .post (((κ, tt), (q, tt), tt, x, at), tt)
@@ -114,11 +114,11 @@ module _ {M : Type 1} (𝓤 : URA M) (H : Heap 𝓤) (A : Atoms 𝓤) (W : Given
   abbrev Ends : Station → List (Item 𝓤)
   Ends st = Ref st ∷ ‵ (flft κ q) ∷ []
 
-  exits : (st : Station) (r : ℕ) (u : Val) → ResetsLent h c st r → Is u64 r (u ∷ []) → ent 𝓤 (⋆ 𝓤 H A (Ends st)) (Post u)
+  exits : (st : Station) (r : ℕ) (u : Val) → ResetsLent h card c st r → Is u64 r (u ∷ []) → ent 𝓤 (⋆ 𝓤 H A (Ends st)) (Post u)
   exits st r u er is =
       qed W (Ends st) ∵
-      suffices ! _ (ends-at 𝓤 H A lent.ended stayed (lent.clauses 𝓤 H A at-mem run) W (((κ, tt), (q, tt), tt, x, at), tt) u r (st, (tt, tt)) (tt, (tt, tt))) $
-      says ! er $ nothing ! $ move ! (2 ∷ 0 ∷ []) $ join ! $ frame ! $ nothing ! $ nothing ! $ fjoin ! $ move ! (1 ∷ 0 ∷ []) $ fjoin ! $ frame ! $
+      suffices ! _ (ends-at 𝓤 H A lent.ended stayed (lent.clauses 𝓤 H A at-mem run) W (((κ, tt), (q, tt), tt, x, at), tt) u r (st, (tt, (tt, tt))) (tt, (tt, (tt, tt)))) $
+      says ! er $ nothing ! $ move ! (2 ∷ 0 ∷ []) $ join ! $ frame ! $ nothing ! $ nothing ! $ fjoin ! $ nothing ! $ fjoin ! $ move ! (1 ∷ 0 ∷ []) $ fjoin ! $ frame ! $
       owned ! u64 (Is u64) (uint-makes 𝓤 H A W w64) r _ is $ done !
 
   -- what the callee asks: nothing
@@ -128,51 +128,51 @@ module _ {M : Type 1} (𝓤 : URA M) (H : Heap 𝓤) (A : Atoms 𝓤) (W : Given
   goes-empty : ent 𝓤 (emp 𝓤) (Empty 𝓤 H A at-mem run .pre to-empty)
   goes-empty = qed W [] ∵ nothing ! $ nothing ! $ join ! $ frame ! $ done !
 
-  module _ (C : Calls 𝓤 H) (Λ : Loops 𝓤 H) (fm : FmC 𝓤 H (W .laws) C) (known-gate : Triple 𝓤 (C #station·gate-number) (GateNumber 𝓤 H A at-mem run)) (known-empty : Triple 𝓤 (C #channel·empty-row) (Empty 𝓤 H A at-mem run)) (gc : c < 2 ^ 8) where
-    walk : ent 𝓤 (onEntry 𝓤 H A lent.signature (κ, tt) (q, tt) x at) (WpFn 𝓤 H C Λ code.function (vptr b o ∷ vint w8 c ∷ []) Post)
+  module _ (C : Calls 𝓤 H) (Λ : Loops 𝓤 H) (fm : FmC 𝓤 H (W .laws) C) (known-gate : Triple 𝓤 (C #station·gate-number) (GateNumber 𝓤 H A at-mem run)) (known-empty : Triple 𝓤 (C #channel·empty-row) (Empty 𝓤 H A at-mem run)) (gk : card < 2 ^ 8) (gc : c < 2 ^ 8) where
+    walk : ent 𝓤 (onEntry 𝓤 H A lent.signature (κ, tt) (q, tt) x at) (WpFn 𝓤 H C Λ code.function (vptr b o ∷ vint w8 card ∷ vint w8 c ∷ []) Post)
     walk =
-        qed W ((‵ (flft κ q) ⊛ ‵ ftrue) ∷ ‵ (owns (MutRef (named 0) κ ST.the-row ∷ u8 ∷ []) x at) ∷ []) ∵ enter ! C Λ code.function (vptr b o ∷ vint w8 c ∷ []) _ $
-        alloc1 ! (λ l₀. alloc1 ! (λ l₁. alloc1 ! (λ l₂. alloc1 ! (λ l₃. alloc1 ! (λ l₄. alloc1 ! (λ l₅. alloc1 ! (λ l₆. alloc1 ! (λ l₇. alloc1 ! (λ l₈. alloc1 ! (λ l₉. alloc0 ! $ params1 ! $
-        pass1 ! (init ! 16 refl (tt, tt)) $ pass1 ! (init ! 14 refl (tt, record { fits = gc })) $ pass0 ! $
-        move ! (21 ∷ []) $ fsplit ! $ move ! (1 ∷ []) $ drop ! $ move ! (21 ∷ []) $ split ! $ move ! (1 ∷ []) $ drop ! $ move ! (1 ∷ 0 ∷ []) $
-        -- [the reference; its token; _9; …; _0; …]: local i is at 20 - 2 · i
+        qed W ((‵ (flft κ q) ⊛ ‵ ftrue) ∷ ‵ (owns (MutRef (named 0) κ ST.the-row ∷ u8 ∷ u8 ∷ []) x at) ∷ []) ∵ enter ! C Λ code.function (vptr b o ∷ vint w8 card ∷ vint w8 c ∷ []) _ $
+        alloc1 ! (λ l₀. alloc1 ! (λ l₁. alloc1 ! (λ l₂. alloc1 ! (λ l₃. alloc1 ! (λ l₄. alloc1 ! (λ l₅. alloc1 ! (λ l₆. alloc1 ! (λ l₇. alloc1 ! (λ l₈. alloc1 ! (λ l₉. alloc1 ! (λ l₁₀. alloc0 ! $ params1 ! $
+        pass1 ! (init ! 18 refl (tt, tt)) $ pass1 ! (init ! 16 refl (tt, record { fits = gk })) $ pass1 ! (init ! 14 refl (tt, record { fits = gc })) $ pass0 ! $
+        move ! (23 ∷ []) $ fsplit ! $ move ! (1 ∷ []) $ drop ! $ move ! (23 ∷ []) $ split ! $ move ! (1 ∷ []) $ drop ! $ move ! (1 ∷ 0 ∷ []) $
+        -- [the reference; its token; _10; …; _0; …]: local i is at 22 - 2 · i
         -- the gate's number
-        asks ! fm (GateNumber 𝓤 H A at-mem run) known-gate (to-gate 𝓤 H A at-mem run c) (goes-gate 𝓤 H A at-mem run W c gc) u64 (vint w64) (uint-tells w64) (λ r. r ≡ firstOf (gateTests c)) _ (lasts gate′.ended tt (c, tt)) (λ u. id⊢ 𝓤 _)
-        (λ P. and-then ! (local-of ! 17 refl refl) (no-more !)) (λ z ez iz.
+        asks ! fm (GateNumber 𝓤 H A at-mem run) known-gate (to-gate 𝓤 H A at-mem run card c) (goes-gate 𝓤 H A at-mem run W card c gk gc) u64 (vint w64) (uint-tells w64) (λ r. r ≡ firstOf (gateTests card c)) _ (lasts gate′.ended tt (card, (c, tt))) (λ u. id⊢ 𝓤 _)
+        (λ P. and-then ! (local-of ! 19 refl refl) (and-then ! (local-of ! 17 refl refl) (no-more !))) (λ z ez iz.
         land ! (from ! (stop !)) (init ! 14 refl (uint-lawful 𝓤 H A W w64 .typed z _ iz .0)) $
         sets ! (bin ! (lit ! tt) (local-of ! 14 refl refl) tt) 10 refl refl (tt, tt) $
         either-way ! (local-of ! 10 refl refl)
-        (λ t. sets ! (of-opd ! (local-of ! 14 refl refl)) 20 refl refl (uint-lawful 𝓤 H A W w64 .typed z _ iz .0) $
-        returns-within ! Post refl (look ! 20 refl) $ free-all (Ends h) (holding _ ∷ holding _ ∷ holding _ ∷ holding _ ∷ none ∷ holding _ ∷ []) ! $ by ! (exits h z _ (refused-lent h c z ez t) iz))
-        (λ no. let n = let-in c z ez no in fsplit3 ! $ drop ! $
+        (λ t. sets ! (of-opd ! (local-of ! 14 refl refl)) 22 refl refl (uint-lawful 𝓤 H A W w64 .typed z _ iz .0) $
+        returns-within ! Post refl (look ! 22 refl) $ free-all (Ends h) (holding _ ∷ holding _ ∷ holding _ ∷ holding _ ∷ holding _ ∷ none ∷ holding _ ∷ []) ! $ by ! (exits h z _ (refused-lent h card c z ez t) iz))
+        (λ no. let n = let-in card c z ez no in fsplit3 ! $ drop ! $
         opens ! tt ST.the-row {h = h} b o (λ vs. spelt ! ST.the-row (Is ST.the-row) (shows 𝓤 H A ST.the-row) (λ d. ST′.lowered d ∷ []) (ST′.lowers .val-is) fullShare h vs b o $
         move ! (1 ∷ []) $ facts ! ST.the-row (Is ST.the-row) (shows 𝓤 H A ST.the-row) h (ST′.lowered h ∷ []) (λ ih.
         use1 W (‵ (fat fullShare ST′.mir b o (stationVal (rowsVal (h .rows)) (BK′.lowered (h .book)) (SM′.lowered (h .summary))))) (W .laws .raw-at fullShare ST′.mir b o (ST′.lowered h)) $
-        -- [the station's cell; the open borrow; obs; auth; _9; …; _0; …]: local i is at 22 - 2 · i
-        sets ! (un ! (local-of ! 18 refl refl) (record { fits = wide c n })) 14 refl refl (tt, record { fits = wide c n }) $
+        -- [the station's cell; the open borrow; obs; auth; _10; …; _0; …]: local i is at 24 - 2 · i
+        sets ! (un ! (local-of ! 18 refl refl) (record { fits = wide card c n })) 14 refl refl (tt, record { fits = wide card c n }) $
         asks ! fm (Empty 𝓤 H A at-mem run) known-empty to-empty goes-empty RW.the-row (λ d. RW′.lowered d) (RW′.lowers .val-is) (λ r. r ≡ emptyRow) _ (lasts empty′.ended tt tt) (λ u. id⊢ 𝓤 _)
         (λ P. no-more !) (λ r er ir.
         land ! (from ! (stop !)) (init ! 10 refl (row-typed 𝓤 H A W r ir)) $
-        sets ! (bin ! (local-of ! 14 refl refl) (lit ! tt) (record { fits = in-bytes c n })) 8 refl refl (tt, record { fits = in-bytes c n }) $
-        sets ! (addr-field ! 20 refl refl ST′.mir 0 refl) 6 refl refl (tt, tt) $
+        sets ! (bin ! (local-of ! 14 refl refl) (lit ! tt) (record { fits = in-bytes card c n })) 8 refl refl (tt, record { fits = in-bytes card c n }) $
+        sets ! (addr-field ! 22 refl refl ST′.mir 0 refl) 6 refl refl (tt, tt) $
         sets ! (bin ! (local-of ! 6 refl refl) (local-of ! 8 refl refl) tt) 4 refl refl (tt, tt) $
-        rewrite ! 4 (λ (z : ℕ). ‵ (fat fullShare tyPtr l₉ 0 (vptr b z))) (sym (place-is rowBytes (o + 0) c)) refl $
-        assigns ! (of-opd ! (local-of ! 10 refl refl)) (from ! (hop ! (look ! 4 refl) (stop !))) (store-in ! 0 (low-item ! RW.the-type RW′.lowers (h .rows) (rows-of h _ ih) c (served c n) noRow (sub ! 0 refl (whole !))) (row-typed 𝓤 H A W r ir)) $
+        rewrite ! 4 (λ (z : ℕ). ‵ (fat fullShare tyPtr l₁₀ 0 (vptr b z))) (sym (place-is rowBytes (o + 0) c)) refl $
+        assigns ! (of-opd ! (local-of ! 10 refl refl)) (from ! (hop ! (look ! 4 refl) (stop !))) (store-in ! 0 (low-item ! RW.the-type RW′.lowers (h .rows) (rows-of h _ ih) c (served card c n) noRow (sub ! 0 refl (whole !))) (row-typed 𝓤 H A W r ir)) $
         rewrite ! 0 (λ (ws : List Val). ‵ (fat fullShare ST′.mir b o (stationVal (arrayVal ws) (BK′.lowered (h .book)) (SM′.lowered (h .summary))))) (map-set RW′.lowered (h .rows) c r) refl $
         use1 W (‵ (cellAt fullShare (ST.the-row .mir) (stationVal (rowsVal (set (h .rows) c r)) (BK′.lowered (h .book)) (SM′.lowered (h .summary)) ∷ []) b o)) (W .laws .at-raw fullShare ST′.mir b o (stationVal (rowsVal (set (h .rows) c r)) (BK′.lowered (h .book)) (SM′.lowered (h .summary)))) $
         owned ! ST.the-row (Is ST.the-row) (LL.makes ST.the-type ST′.the-plain 𝓤 H A) (withRow h c r) _ (row-put h c r ih ir) $ move ! (1 ∷ 0 ∷ []) $ closes ! tt ST.the-row (withRow h c r) (stationVal (rowsVal (set (h .rows) c r)) (BK′.lowered (h .book)) (SM′.lowered (h .summary)) ∷ []) b o $
         feqI ! (List Val) (vptr b o ∷ []) (vptr b o ∷ []) refl $ fjoin3 ! $
-        -- [the reference; its token; _9; …; _0; …]
-        sets ! (of-opd ! (lit ! tt)) 20 refl refl (tt, record { fits = lit< tt }) $ returns ! (look ! 20 refl) $
-        free-all (Ends (withRow h c r)) (holding _ ∷ holding _ ∷ holding _ ∷ holding _ ∷ holding _ ∷ holding _ ∷ holding _ ∷ holding _ ∷ holding _ ∷ holding _ ∷ []) ! $ by ! (exits (withRow h c r) 0 _ (emptied-lent h c r n er) (refl, lit< tt)))))))))))))))))
+        -- [the reference; its token; _10; …; _0; …]
+        sets ! (of-opd ! (lit ! tt)) 22 refl refl (tt, record { fits = lit< tt }) $ returns ! (look ! 22 refl) $
+        free-all (Ends (withRow h c r)) (holding _ ∷ holding _ ∷ holding _ ∷ holding _ ∷ holding _ ∷ holding _ ∷ holding _ ∷ holding _ ∷ holding _ ∷ holding _ ∷ holding _ ∷ []) ! $ by ! (exits (withRow h c r) 0 _ (emptied-lent h card c r n er) (refl, lit< tt))))))))))))))))))
 
 module _ {M : Type 1} (𝓤 : URA M) (H : Heap 𝓤) (A : Atoms 𝓤) (W : Given 𝓤 H A) (mem : Memory → SProp 𝓤) (run : Routine → Fun 𝓤) (𝓣 : Tables 𝓤 H) (known-gate : Triple 𝓤 (𝓣 .C #station·gate-number) (GateNumber 𝓤 H A mem run)) (known-empty : Triple 𝓤 (𝓣 .C #channel·empty-row) (Empty 𝓤 H A mem run)) where
   lent-walks : Walks 𝓤 H A lent.ended stayed (WpFn 𝓤 H (𝓣 .C) (𝓣 .Λ) code.function) (lent.clauses 𝓤 H A mem run)
-  lent-walks = walked 𝓤 H A lent.ended stayed (lent.clauses 𝓤 H A mem run) (WpFn 𝓤 H (𝓣 .C) (𝓣 .Λ) code.function) (λ κs. (ptr-vals, (uint-vals w8, tt))) (λ κs. (mut-tells (named 0) (κs .0) ST.the-row, (uint-tells w8, tt)))
-      (λ κs qs bounds a _ are. via 𝓤 _ (fst∗ 𝓤 _ (emp 𝓤)) (walk 𝓤 H A W mem run (κs .0) (qs .0) (a .0 .ptr .0) (a .0 .ptr .1) (a .0 .name) (a .0 .now) (a .1 .0) (𝓣 .C) (𝓣 .Λ) (fmOf 𝓤 H (W .laws) 𝓣) known-gate known-empty (are .1 .0 .1)))
+  lent-walks = walked 𝓤 H A lent.ended stayed (lent.clauses 𝓤 H A mem run) (WpFn 𝓤 H (𝓣 .C) (𝓣 .Λ) code.function) (λ κs. (ptr-vals, (uint-vals w8, (uint-vals w8, tt)))) (λ κs. (mut-tells (named 0) (κs .0) ST.the-row, (uint-tells w8, (uint-tells w8, tt))))
+      (λ κs qs bounds a _ are. via 𝓤 _ (fst∗ 𝓤 _ (emp 𝓤)) (walk 𝓤 H A W mem run (κs .0) (qs .0) (a .0 .ptr .0) (a .0 .ptr .1) (a .0 .name) (a .0 .now) (a .1 .0) (a .1 .1 .0) (𝓣 .C) (𝓣 .Λ) (fmOf 𝓤 H (W .laws) 𝓣) known-gate known-empty (are .1 .0 .1) (are .1 .1 .0 .1)))
 
   lent-meets : Meets 𝓤 H A lent.signature (WpFn 𝓤 H (𝓣 .C) (𝓣 .Λ) code.function) (lent.spec 𝓤 H A mem run)
-  lent-meets = walk-meets 𝓤 H A lent.ended stayed W (goes-ref 𝓤 H A W 1 0 tt (plain (λ _. ST.the-row)), (goes-dropped 𝓤 H A W 1 (plain (λ _. u8)) yes (λ κs x f. refl), tt))
+  lent-meets = walk-meets 𝓤 H A lent.ended stayed W (goes-ref 𝓤 H A W 1 0 tt (plain (λ _. ST.the-row)), (goes-dropped 𝓤 H A W 1 (plain (λ _. u8)) yes (λ κs x f. refl), (goes-dropped 𝓤 H A W 1 (plain (λ _. u8)) yes (λ κs x f. refl), tt)))
       (lent.clauses 𝓤 H A mem run) (WpFn 𝓤 H (𝓣 .C) (𝓣 .Λ) code.function) (WpFn-mono 𝓤 H (W .laws) 𝓣 code.function) lent-walks
 
 pub spineyarrow-reset-spec : {M : Type 1} → stated.statement M

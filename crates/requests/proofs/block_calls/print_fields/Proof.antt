@@ -9,10 +9,10 @@ use Rattle.requests.proofs.block_calls.print_fields.Statement.{statemen
 use Rattle.requests.proofs.block_calls.print_fields.Tie as tie
 
 abbrev Inv-loop : tie.InvT-loop
-Inv-loop block next₀ at₀ next at = Unit {0}
+Inv-loop card block next₀ at₀ next at = Unit {0}
 
 abbrev μ-loop : tie.MeasureT-loop
-μ-loop block next₀ at₀ next at = length block - at
+μ-loop card block next₀ at₀ next at = length block - at
 
 loop-holds : tie.Need-loop-holds Inv-loop μ-loop
 loop-holds c = search needs

@@ -20,14 +20,14 @@ cast-result : tie.Need-cast-result
 cast-result c = search needs
 
 returns : tie.Need-returns
-returns c = let e = c .before .before in let a = e .before .args .channel in number-open a (opened a (e .enter .ensures) (c .enum-told .given .1) .0)
+returns c = let e = c .before .before in let a = e .before .args in number-open (a .card) (a .channel) (opened (a .card) (a .channel) (e .enter .ensures) (c .enum-told .given .1) .0)
 
 returns-2 : tie.Need-returns-2
 returns-2 c =
     let g = c .before .before in
     let e = g .before .before in
-    let a = e .before .args .channel in
-    number-shut a _ (g .gate .given .0 .0) (shut a (e .enter .ensures) (g .gate .given .1) .1) (c .refusal-number .ensures)
+    let a = e .before .args in
+    number-shut (a .card) (a .channel) _ (g .gate .given .0 .0) (shut (a .card) (a .channel) (e .enter .ensures) (g .gate .given .1) .1) (c .refusal-number .ensures)
 
 pub gate-number-spec : {M : Type 1} → statement M
 gate-number-spec = tie.close (tie.spec enter-requires enum-told enum-known-gate refusal-number-requires cast-result returns returns-2)

@@ -18,10 +18,10 @@ enum-known-gate-2 : tie.Need-enum-known-gate-2
 enum-known-gate-2 c = search needs
 
 mul-row : tie.Need-mul-row
-mul-row c = let g = c .before in let e = g .before .before in omega (arith, opened (e .before .args .channel) (e .enter .ensures) (g .gate2 .given .1) .1 .1)
+mul-row c = let g = c .before in let e = g .before .before in omega (arith, opened (e .before .args .card) (e .before .args .channel) (e .enter .ensures) (g .gate2 .given .1) .1 .1)
 
 element-copy-out-row : tie.Need-element-copy-out-row
-element-copy-out-row c = let g = c .before in let e = g .before .before in omega (arith, opened (e .before .args .channel) (e .enter .ensures) (g .gate2 .given .1) .1 .1)
+element-copy-out-row c = let g = c .before in let e = g .before .before in omega (arith, opened (e .before .args .card) (e .before .args .channel) (e .enter .ensures) (g .gate2 .given .1) .1 .1)
 
 has-record-requires : tie.Need-has-record-requires
 has-record-requires c κs = search needs
@@ -33,13 +33,13 @@ returns c =
     let g = h .before .before .before .before in
     let e = g .before .before in
     let a = e .before .args in
-    record-missing (a .t1) (a .channel) _ (opened (a .channel) (e .enter .ensures) (g .gate2 .given .1)) (is-not (h .has-record .ensures) (c .if1 .taken))
+    record-missing (a .t1) (a .card) (a .channel) _ (opened (a .card) (a .channel) (e .enter .ensures) (g .gate2 .given .1)) (is-not (h .has-record .ensures) (c .if1 .taken))
 
 immediate-words-requires : tie.Need-immediate-words-requires
 immediate-words-requires c κs = search needs
 
 returns-2 : tie.Need-returns-2
-returns-2 c = let e = c .before .before .before in let a = e .before .args in record-shut (a .t1) (a .channel) _ (shut (a .channel) (e .enter .ensures) (c .before .gate .given .1))
+returns-2 c = let e = c .before .before .before in let a = e .before .args in record-shut (a .t1) (a .card) (a .channel) _ (shut (a .card) (a .channel) (e .enter .ensures) (c .before .gate .given .1))
 
 returns-3 : tie.Need-returns-3
 unfolding noRow
@@ -49,7 +49,7 @@ returns-3 c =
     let g = h .before .before .before .before in
     let e = g .before .before in
     let a = e .before .args in
-    record-there (a .t1) (a .channel) _ (opened (a .channel) (e .enter .ensures) (g .gate2 .given .1)) (is-so (h .has-record .ensures) (f .if1 .left)) _ (c .immediate-words .ensures)
+    record-there (a .t1) (a .card) (a .channel) _ (opened (a .card) (a .channel) (e .enter .ensures) (g .gate2 .given .1)) (is-so (h .has-record .ensures) (f .if1 .left)) _ (c .immediate-words .ensures)
 
 pub immediate-of-spec : {M : Type 1} → statement M
 immediate-of-spec =

@@ -17,13 +17,13 @@ enum-known-gate-2 : tie.Need-enum-known-gate-2
 enum-known-gate-2 c = search needs
 
 mul-row : tie.Need-mul-row
-mul-row c = let g = c .before in let e = g .before .before in omega (arith, opened (e .before .args .channel) (e .enter .ensures) (g .gate2 .given .1) .1 .1)
+mul-row c = let g = c .before in let e = g .before .before in omega (arith, opened (e .before .args .card) (e .before .args .channel) (e .enter .ensures) (g .gate2 .given .1) .1 .1)
 
 element-copy-out-row : tie.Need-element-copy-out-row
-element-copy-out-row c = let g = c .before in let e = g .before .before in omega (arith, opened (e .before .args .channel) (e .enter .ensures) (g .gate2 .given .1) .1 .1)
+element-copy-out-row c = let g = c .before in let e = g .before .before in omega (arith, opened (e .before .args .card) (e .before .args .channel) (e .enter .ensures) (g .gate2 .given .1) .1 .1)
 
 returns : tie.Need-returns
-returns c = let e = c .before .before .before in let a = e .before .args in tallies-shut (a .t1) (a .channel) _ (shut (a .channel) (e .enter .ensures) (c .before .gate .given .1))
+returns c = let e = c .before .before .before in let a = e .before .args in tallies-shut (a .t1) (a .card) (a .channel) _ (shut (a .card) (a .channel) (e .enter .ensures) (c .before .gate .given .1))
 
 returns-2 : tie.Need-returns-2
 unfolding noRow
@@ -31,7 +31,7 @@ returns-2 c =
     let g = c .before .before .before in
     let e = g .before .before in
     let a = e .before .args in
-    tallies-there (a .t1) (a .channel) _ (opened (a .channel) (e .enter .ensures) (g .gate2 .given .1))
+    tallies-there (a .t1) (a .card) (a .channel) _ (opened (a .card) (a .channel) (e .enter .ensures) (g .gate2 .given .1))
 
 pub tallies-of-spec : {M : Type 1} → statement M
 tallies-of-spec = tie.close (tie.spec enter-requires enum-known-gate enum-known-gate-2 mul-row element-copy-out-row returns returns-2)

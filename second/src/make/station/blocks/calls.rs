@@ -10,8 +10,8 @@ use crate::alter::{codes_out_of_range, with_bit_inverted, with_code, with_m};
 use crate::block::field;
 use crate::known;
 use crate::listing::Record;
+use crate::station::card::CHANNELS_OF_A_CARD;
 use crate::station::frame::STRINGS_IN_A_FRAME;
-use crate::station::CHANNELS;
 use crate::string::{NavString, BYTES};
 use crate::words::kinds::TK;
 
@@ -75,7 +75,7 @@ impl Input {
 
     /// A string of each channel to a block; then all that queries tell.
     fn every_channel_in_a_block(&mut self) {
-        let frames: Vec<Vec<NavString>> = (0..CHANNELS).map(|_| self.frame(1)).collect();
+        let frames: Vec<Vec<NavString>> = (0..CHANNELS_OF_A_CARD).map(|_| self.frame(1)).collect();
         self.fresh();
         for index in 0..STRINGS_IN_A_FRAME {
             let mut calls = Vec::new();
@@ -100,7 +100,7 @@ impl Input {
         self.in_both_ways(&before, &calls);
     }
 
-    /// By 1, 2, 31 to 33 and 4 to 9, where this string is held on the channel, in the frame
+    /// By 15, 2, 31 to 33 and 4 to 9, where this string is held on the channel, in the frame
     /// at SOME_START. The last one is in conflict with it.
     pub(in super::super) fn refused_offers(&mut self, channel: u8, held: &NavString) -> Vec<Call> {
         let right_epoch = SOME_START + held.m() as u32 - 1;
@@ -226,7 +226,7 @@ impl Input {
                 fields.insert(place, field(0, &[]));
             }
             self.block(&fields.concat());
-            let channel = self.random.below(CHANNELS) as u8;
+            let channel = self.random.below(CHANNELS_OF_A_CARD) as u8;
             self.ask_channel(channel);
         }
         self.ask_all();
