@@ -1,0 +1,3 @@
+pub mod Calendar
+pub mod FourYears
+pub mod Known

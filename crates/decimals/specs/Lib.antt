@@ -1,0 +1,4 @@
+pub mod Decimal
+pub mod Theorems
+pub mod Codes
+pub mod Known

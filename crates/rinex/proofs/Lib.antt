@@ -1,0 +1,5 @@
+pub mod Clock
+pub mod Columns
+pub mod Naturals
+pub mod KnownRecords
+pub mod Shape
