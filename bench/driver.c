@@ -28,7 +28,7 @@ static int words[STRINGS][8], read[26], of_kind[KINDS + 1][STRINGS], many[KINDS 
    row's size here, and report.py that and the number of rows */
 #define ROWS 48
 #ifndef ROW
-#define ROW 276
+#define ROW 280
 #endif
 static struct { u8 rows[ROWS][ROW], book[24][24], summary[16]; } __attribute__((aligned(8))) station;
 

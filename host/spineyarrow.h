@@ -62,7 +62,7 @@ uint32_t spineyarrow_word(const uint8_t *s, uint64_t s_length, uint8_t word, dou
    the four share a frame is not tested. */
 uint32_t spineyarrow_immediate(const uint8_t *one, uint64_t one_length, const uint8_t *two, uint64_t two_length, const uint8_t *three, uint64_t three_length, const uint8_t *four, uint64_t four_length, int32_t words[26], double numbers[12]);
 
-/* ==== liblent.a (rt staticlib lent): a station of two cards that lies in the host's memory, 13,840 bytes aligned to 8; all zero is a fresh one */
+/* ==== liblent.a (rt staticlib lent): a station of two cards that lies in the host's memory, 14,032 bytes aligned to 8; all zero is a fresh one */
 
 /* Offers a string, in relative form and of any length, to a channel at an epoch. Card 1 has channels 0
    to 23, card 2 24 to 47. A card that is neither is told 16 CARD, a channel above 47 1 CHANNEL, and the

@@ -12,6 +12,7 @@ pub mod known;
 pub mod listing;
 pub mod logger;
 pub mod make;
+pub mod navigation;
 pub mod random;
 pub mod refusal;
 pub mod relative;

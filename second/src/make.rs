@@ -50,6 +50,7 @@ pub fn trial_input(seed: u64) -> Vec<u8> {
             numbers::add_all,
             salvage::add_all,
             station::cards::add_all,
+            station::navigation::add_all,
         ],
     )
 }

@@ -26,6 +26,8 @@ pub enum Refusal {
     Owner,
     /// "For a card other than one or two."
     Card,
+    /// "When the output is not 320 bytes": that of a navigation record.
+    RecordRoom,
     /// Names a block's field by the place of its tag byte, counted from 0.
     Field {
         trouble: FieldTrouble,
@@ -110,6 +112,7 @@ impl Refusal {
             Refusal::Slot => 14,
             Refusal::Owner => 15,
             Refusal::Card => 16,
+            Refusal::RecordRoom => 17,
             Refusal::Field { trouble, .. } => trouble.number(),
             Refusal::Full { room, .. } => room.number(),
         }

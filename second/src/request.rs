@@ -25,7 +25,10 @@ pub const SUMMARY: u8 = 14;
 pub const WORD_AS_FLOAT: u8 = 15;
 pub const FOUR_STRINGS: u8 = 16;
 pub const SALVAGE: u8 = 17;
+pub const NAVIGATION: u8 = 18;
 pub const ENTRY_WORDS: u8 = 23;
+pub const FIVE_OF: u8 = 24;
+pub const CARRIER: u8 = 25;
 
 #[derive(Clone, Copy, Debug, PartialEq, Eq)]
 pub struct Request<'a> {
@@ -107,6 +110,9 @@ pub fn values_to_bytes(values: &[i64]) -> Vec<u8> {
 
 /// A file to be salvaged has at most so many bytes here.
 pub const LONGEST_FILE: usize = 96;
+
+/// A navigation record has at most so many bytes of room here.
+pub const LARGEST_ROOM: u16 = 1024;
 
 /// Four strings, each after its length in one byte, and nothing behind them.
 pub fn split_strings(mut payload: &[u8]) -> Option<[&[u8]; 4]> {

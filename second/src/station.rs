@@ -12,6 +12,7 @@ pub mod tallies;
 use std::array;
 
 use crate::refusal::Refusal;
+use crate::words::kinds::STRING_5;
 use almanac::shown_entries;
 use book::{Book, Entry, Summary};
 use card::{reach_book, reach_row, CHANNELS_OF_A_CARD};
@@ -92,6 +93,15 @@ impl Station {
     pub fn immediate(&self, card: u8, channel: usize) -> Result<&ImmediateRecord, Refusal> {
         let record = &self.row(card, channel)?.record;
         record.as_ref().ok_or(Refusal::Nothing)
+    }
+
+    /// The words of string 5 of the frame that the record was read from, in range or not. Order
+    /// of refusals: 16, 1, 15, 13.
+    pub fn five_of(&self, card: u8, channel: usize) -> Result<Vec<i64>, Refusal> {
+        let string = self.row(card, channel)?.string_5_of_record();
+        let string = string.ok_or(Refusal::Nothing)?;
+        let words = STRING_5.words.iter();
+        Ok(words.map(|word| word.value_in(string)).collect())
     }
 
     /// Order of refusals: 16, 14, 13.

@@ -3,6 +3,7 @@
 
 mod block;
 mod host;
+mod navigation;
 mod salvage;
 mod station;
 mod strings;
@@ -89,7 +90,10 @@ fn call_of_card(station: &mut Station, card: u8, asked: Request) -> Option<Answe
         request::HEALTH => station::health(station, card, payload),
         request::BLOCK => Some(Ok(block::block(station, card, payload))),
         request::SUMMARY => station::summary(station, card, payload),
+        request::NAVIGATION => navigation::record(station, card, payload),
         request::ENTRY_WORDS => station::entry_words(station, card, payload),
+        request::FIVE_OF => navigation::five_of(station, card, payload),
+        request::CARRIER => navigation::carrier(station, card, payload),
         _ => None,
     }
 }

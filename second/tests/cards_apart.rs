@@ -3,16 +3,16 @@
 
 use second::make;
 use second::request::{
-    whole_requests, Piece, Request, BLOCK, ENTRY, ENTRY_WORDS, FRESH, HEALTH, IMMEDIATE, OFFER,
-    RESET, SUMMARY, TALLIES,
+    whole_requests, Piece, Request, BLOCK, CARRIER, ENTRY, ENTRY_WORDS, FIVE_OF, FRESH, HEALTH,
+    IMMEDIATE, NAVIGATION, OFFER, RESET, SUMMARY, TALLIES,
 };
 use second::station::card::{ONE, TWO};
 use second::station::Station;
 use second::trial::answer_piece;
 
 /// Those that a card's rows answer; the others read the book.
-const OF_ROWS: [u8; 5] = [OFFER, RESET, IMMEDIATE, TALLIES, BLOCK];
-const OF_THE_BOOK: [u8; 4] = [ENTRY, ENTRY_WORDS, SUMMARY, HEALTH];
+const OF_ROWS: [u8; 6] = [OFFER, RESET, IMMEDIATE, TALLIES, BLOCK, FIVE_OF];
+const OF_THE_BOOK: [u8; 6] = [ENTRY, ENTRY_WORDS, SUMMARY, HEALTH, NAVIGATION, CARRIER];
 
 type History<'a> = Vec<Request<'a>>;
 
@@ -99,7 +99,7 @@ fn the_histories_near_the_limit_answer_a_card_as_if_it_were_alone() {
 }
 
 /// "Only book entries, the summary, and health, which reads the book, may differ": each of
-/// them does, for either card.
+/// them does, for either card, and so does the navigation record.
 #[test]
 fn what_reads_the_book_differs_in_some_history() {
     let input = make::trial_input(20260);

@@ -4,9 +4,9 @@ use second::alter::with_number;
 use second::known::{a, received_frame, A, B, B_DAMAGED, B_INVERTED, FLIPS_THAT_DAMAGE};
 use second::relative::to_relative;
 use second::request::{
-    append, join_strings, values_to_bytes, whole_requests, Piece, BLOCK, CHECK, ENTRY, ENTRY_WORDS,
-    FOUR_STRINGS, FRESH, FROM_RELATIVE, HEALTH, IMMEDIATE, OFFER, READ, RESET, SALVAGE, SUMMARY,
-    TALLIES, TO_RELATIVE, WORD_AS_FLOAT, WRITE,
+    append, join_strings, values_to_bytes, whole_requests, Piece, BLOCK, CARRIER, CHECK, ENTRY,
+    ENTRY_WORDS, FIVE_OF, FOUR_STRINGS, FRESH, FROM_RELATIVE, HEALTH, IMMEDIATE, NAVIGATION, OFFER,
+    READ, RESET, SALVAGE, SUMMARY, TALLIES, TO_RELATIVE, WORD_AS_FLOAT, WRITE,
 };
 use second::string::NavString;
 use second::{make, trial};
@@ -231,7 +231,7 @@ fn queries_tell_of_the_received_frame() {
     requests.extend(queries.map(|(op, which)| (op, vec![which])));
     let expected = [
         "ok 0 1865 -1524643 0 29953275 0 1 59 2380845 1 -14498293 1 0 3 0 2002605 -2 40188871 \
-         -29136 8 0 1 3 104 11 1",
+         -29136 8 0 1 3 104 11 1 100",
         "ok 7409 b082059c4415530a7e 07a33d2bbf4bfeca5f",
         "ok 15 15 0 0 0 0 0 0 0 0 0 0 0 0",
         "ok 0",
@@ -268,6 +268,98 @@ fn a_summary_prints_count_oldest_and_newest_day() {
     let lines = answers(&requests);
     assert_eq!(lines[0], "ok 0 0 0");
     assert_eq!(lines[16..], ["ok 5 7409 7409", "ok", "ok 0 0 0"]);
+}
+
+/// The text of channel 3 for card one, in this room.
+fn text_in(room: u16) -> (u8, Vec<u8>) {
+    let payload = [&[1, 3], &room.to_be_bytes()[..]].concat();
+    (NAVIGATION, payload)
+}
+
+/// The received frame shows no entry for its own n: that of slot 16 is shown as slot 11.
+fn offers_of_all_that_a_text_needs() -> Vec<(u8, Vec<u8>)> {
+    let frame = received_frame();
+    let entry = [frame[4], with_number(&frame[5], (77, 73), 11), frame[6]];
+    let mut requests = offers_of_received_frame();
+    for (string, epoch) in entry.iter().zip(104..) {
+        let symbols = to_relative(string).unwrap().to_bytes();
+        requests.push(offer_symbols(9, epoch, &symbols));
+    }
+    requests
+}
+
+/// What stands in the text is its own tests' business.
+#[test]
+fn a_navigation_record_prints_its_four_lines_in_one() {
+    let mut requests = offers_of_all_that_a_text_needs();
+    requests.push(text_in(320));
+    let line = answers(&requests).pop().unwrap();
+    assert_eq!(line.len(), 3 + 319);
+    assert!(
+        line.starts_with("ok 11 16  4 13 11 45  0.0 2.713501453400D-05 "),
+        "{line}"
+    );
+    let lines: Vec<&str> = line[3..].split('|').collect();
+    assert_eq!(lines.len(), 4);
+    assert!(lines.iter().all(|line| line.len() == 79));
+}
+
+#[test]
+fn a_room_of_more_than_1024_bytes_is_bad() {
+    for (room, line) in [
+        (0, "no 17"),
+        (319, "no 17"),
+        (321, "no 17"),
+        (1024, "no 17"),
+        (1025, "bad 18"),
+        (0x4140, "bad 18"),
+        (65535, "bad 18"),
+    ] {
+        let mut requests = offers_of_all_that_a_text_needs();
+        requests.push(text_in(room));
+        assert_eq!(answers(&requests).pop().unwrap(), line, "{room}");
+    }
+}
+
+#[test]
+fn string_5_and_the_carrier_print_their_words() {
+    let mut requests = offers_of_all_that_a_text_needs();
+    requests.push((FIVE_OF, vec![1, 3]));
+    requests.extend([11, 16, 17].map(|slot| (CARRIER, vec![2, slot])));
+    let lines = ["ok 104 0 6 -4 0", "ok -1", "ok -1", "ok 4"];
+    assert_eq!(answers(&requests)[18..], lines);
+}
+
+#[test]
+fn navigation_requests_name_their_card() {
+    for (op, payload, line) in [
+        (NAVIGATION, &[0, 0, 1, 64][..], "no 16\n"),
+        (NAVIGATION, &[3, 255, 1, 64], "no 16\n"),
+        (NAVIGATION, &[1, 48, 1, 64], "no 1\n"),
+        (NAVIGATION, &[1, 24, 1, 64], "no 15\n"),
+        (NAVIGATION, &[2, 23, 1, 64], "no 15\n"),
+        (NAVIGATION, &[2, 24, 0, 0], "no 13\n"),
+        (FIVE_OF, &[0, 48], "no 16\n"),
+        (FIVE_OF, &[2, 48], "no 1\n"),
+        (FIVE_OF, &[2, 0], "no 15\n"),
+        (FIVE_OF, &[2, 47], "no 13\n"),
+        (CARRIER, &[3, 0], "no 16\n"),
+        (CARRIER, &[2, 0], "no 14\n"),
+        (CARRIER, &[1, 25], "no 14\n"),
+        (CARRIER, &[1, 24], "no 13\n"),
+    ] {
+        assert_eq!(answer_payload(op, payload), line, "{op} {payload:?}");
+    }
+}
+
+#[test]
+fn navigation_requests_of_another_length_are_bad() {
+    for (op, length) in [(NAVIGATION, 4), (FIVE_OF, 2), (CARRIER, 2)] {
+        for other in (0..300).filter(|&other| other != length) {
+            let line = format!("bad {op}\n");
+            assert_eq!(answer_payload(op, &vec![1; other]), line);
+        }
+    }
 }
 
 #[test]
@@ -505,7 +597,8 @@ fn the_made_input_draws_every_kind_of_line() {
         "ok 0 ", "ok 85 ", "no 1", "no 2", "no 31", "no 32", "no 33", "no 4", "no 5", "no 6",
         "no 7", "no 8", "no 9", "no 10 76", "no 11", "no 12", "no 13", "no 14", "taken 1 ",
         "no 41 ", "no 42 ", "no 43 ", "no 44 ", "no 45 ", "end", "bad 0", "bad 4", "bad 5",
-        "bad 6", "bad 12", "bad 14", "bad 15", "bad 16", "bad 17", "bad 23", "short 10",
+        "bad 6", "bad 12", "bad 14", "bad 15", "bad 16", "bad 17", "bad 18", "bad 23", "bad 24",
+        "bad 25", "no 10 26", "no 10 36", "no 17", "short 10",
     ] {
         assert!(lines.lines().any(|line| line.starts_with(kind)), "{kind}");
     }
@@ -549,7 +642,10 @@ fn the_input_for_words_asks_no_station() {
         WORD_AS_FLOAT,
         FOUR_STRINGS,
         SALVAGE,
+        NAVIGATION,
         ENTRY_WORDS,
+        FIVE_OF,
+        CARRIER,
     ];
     assert!(!others.iter().any(|op| ops.contains(op)));
 }

@@ -4,6 +4,7 @@ use Rattle.channel.proofs.Tested.{taken-passes}
 use Rattle.channel.proofs.Starts.{starts}
 use Rattle.channel.proofs.NewsTold.{news}
 use Rattle.channel.proofs.ZeroStrings.{new-frame, absent-zero}
+use Rattle.channel.proofs.StillHeld.{still-held}
 use Rattle.channel.proofs.Again.{again, held-same}
 use Rattle.channel.proofs.Counting.{ten-are-all}
 use Rattle.channel.proofs.EitherWay.{either-way}
@@ -18,7 +19,7 @@ laws =
         again = again row epoch s r o;
         news = news row epoch s r long o;
       };
-      rows = λ cs row run. record { absent = absent-zero cs row run; same = λ epoch s r. held-same cs row epoch s r run };
+      rows = λ cs row run. record { absent = absent-zero cs row run; still-held = still-held cs row run; same = λ epoch s r. held-same cs row epoch s r run };
       ten = ten-are-all;
       either-way = either-way;
     }

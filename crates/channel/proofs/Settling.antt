@@ -169,7 +169,7 @@ placed-whole h epoch s (Refused q) h′ o e = absurd (true≢false (sym e))
 
 -- ---- the row of it all: what is held, the record and the tallies by the answer
 abbrev pub rowBy : Row → Held → Bool → Outcome → Row
-rowBy row h built o = counted o (holding row h (recordBy built (h .bytes) (row .immediate)))
+rowBy row h built o = counted o (holding row h (recordBy built (h .start) (h .bytes) (row .immediate)))
 
 module _ (row : Row) (epoch : ℕ) (s : List ℕ) where
   abbrev theTests : List Test

@@ -21,8 +21,9 @@ use Rattle.channel.specs.declared.Answer.{Answer}
 use Rattle.channel.specs.declared.Answer.the-variants.{Taken, Refused}
 use Rattle.channel.specs.declared.Offered.{Offered}
 use Rattle.channel.specs.Frame.{Frame}
+use Rattle.channel.specs.Row.{frameOf, stillHolds}
 use Rattle.channel.specs.Offers.{answerPaper, offerTests, Offers}
-use Rattle.channel.specs.History.{Call, Runs}
+use Rattle.channel.specs.History.{Call, makesRecord, Runs}
 
 -- ---- the numbers
 -- an answer's numbers, counted from 0. The first is 0 where the offer is taken, and else the number that says no; number 4 of one that is taken is its
@@ -138,6 +139,8 @@ pub record OfferLaws (row : Row) (epoch : ℕ) (s : List ℕ) (r : Offered) : Ty
 -- ---- of the row that any calls left
 pub record RowLaws (row : Row) : Type 0 where
   pub absent : AbsentZero row
+  -- a start tells a frame: the row still holds the frame of its record exactly where its frame has strings 1..4, in range
+  pub still-held : stillHolds row ≡ makesRecord (frameOf row)
   -- one that is taken again is the held string: its check bits follow from the others
   pub same : (epoch : ℕ) (s : List ℕ) (r : Offered) → Offers row epoch s r → IsTaken r → IsHeld row epoch s → SameBits row s 85 1
 

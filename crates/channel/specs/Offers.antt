@@ -128,7 +128,7 @@ OffersApart h epoch s a h′ = PlacesBy (offerTests (frameIn h) epoch s) h epoch
 unfoldable pub takenRow : Row → ℕ → ℕ → Row
 takenRow row epoch n =
     let h = heldWith (heldOf row) epoch n in
-    holding row h (recordBy (isBuilt (newsOf (frameOf row) epoch n)) (h .bytes) (row .immediate))
+    holding row h (recordBy (isBuilt (newsOf (frameOf row) epoch n)) (h .start) (h .bytes) (row .immediate))
 
 -- what becomes of it, as far as the tallies go
 abbrev pub outcomeBy : List Test → Verdict → Outcome

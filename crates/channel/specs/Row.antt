@@ -15,6 +15,7 @@ use Rattle.words.specs.Immediate.{stringAt}
 use Rattle.channel.specs.declared.Row.{Row}
 use Rattle.channel.specs.declared.Head.{Head}
 use Rattle.immediate.specs.declared.Immediate.{Immediate}
+use Rattle.immediate.specs.Kept.{hasRecord}
 use Rattle.channel.specs.declared.News.{News}
 use Rattle.channel.specs.declared.News.the-variants.{AlreadyHeld, Kept, RecordBuilt, RecordOutOfRange}
 use Rattle.tallies.specs.Tallies.{Outcome, afterOffer, noneCounted}
@@ -62,7 +63,7 @@ frameOf row = framed (row .start) (row .present) (row .strings)
 -- ---- what becomes of it
 -- "a reset row is all zero"
 unfoldable pub emptyRow : Row
-emptyRow = record { strings = replicate 165 0; start = 0; present = 0; immediate = record { strings = replicate 44 0 }; tallies = noneCounted }
+emptyRow = record { strings = replicate 165 0; start = 0; present = 0; immediate = record { strings = replicate 44 0; start = 0 }; tallies = noneCounted }
 
 -- ---- a string stored
 -- "A new frame leaves its other fourteen strings zero"
@@ -91,6 +92,10 @@ unfoldable pub heldWith : Held → ℕ → ℕ → Held
 heldWith h epoch n = pick (isHere (frameIn h) epoch n) h (stored (heldFor h (startOf epoch n)) n)
 
 -- ---- the record and the tallies
+-- a row has a record, and still holds the frame that it was read from: request 11, "once the row holds another frame its string 5 counts as missing"
+abbrev pub stillHolds : Row → Bool
+stillHolds row = hasRecord (row .immediate) && isOfFrame (frameOf row) (row .immediate .start)
+
 -- the row with what is held, and with a record
 abbrev pub holding : Row → Held → Immediate → Row
 holding row h i = record { strings = h .bytes; start = h .start; present = h .mask; immediate = i; tallies = row .tallies }

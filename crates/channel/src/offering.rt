@@ -40,7 +40,7 @@ pub fn offer(mut row: Row, epoch: u32, s: &[u8]) -> Offered
     row.start = after.start;
     row.present = after.present;
     if is_built(placed) {
-        let record = first_four(all);
+        let record = first_four(all, after.start);
         row.immediate = record;
     }
     let answer = told_with(placed, s);

@@ -14,7 +14,10 @@ pub fn empty_row() -> Row
         strings: [0u8; 165],
         start: 0,
         present: 0,
-        immediate: Immediate { strings: [0u8; 44] },
+        immediate: Immediate {
+            strings: [0u8; 44],
+            start: 0,
+        },
         tallies: none_counted(),
     }
 }

@@ -127,7 +127,7 @@ heldRow sixth =
       strings = replicate 44 0 ++ (plainFive ++ (sixth ++ (plainSeven ++ replicate 88 0)));
       start = 100;
       present = 0b1110000;
-      immediate = record { strings = replicate 44 0 };
+      immediate = record { strings = replicate 44 0; start = 0 };
       tallies = record { offered = 3; clean = 3; repaired = 0; refused = 0; causes = noneRefused };
     }
 

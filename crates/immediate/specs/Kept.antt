@@ -1,5 +1,5 @@
 -- The immediate record (the paper, "Frames and the book"): "When strings 1..4 of the held frame are all present and their words are in range, they become
--- the channel's immediate record". It is kept as the four strings that it was read from.
+-- the channel's immediate record". It is kept as the four strings that it was read from, and request 11: "the immediate record now keeps its frame's start".
 -- Assumes nothing.
 use Prim.Native.Nat.{ℕ}
 use mathlib.Core.Bool.{Bool, _&&_}
@@ -30,6 +30,10 @@ hasRecord i = areGood (i .strings)
 unfoldable pub recordIn : Immediate → List ℕ
 recordIn i = pick (hasRecord i) (keptFour i) []
 
--- "they become the channel's immediate record": where they do, of the bytes of a frame's strings
-abbrev pub recordBy : Bool → List ℕ → Immediate → Immediate
-recordBy built bytes i = pick built (record { strings = take 44 bytes }) i
+-- the record that a frame's strings become, in bytes, with "its frame's start"
+abbrev pub builtFrom : ℕ → List ℕ → Immediate
+builtFrom start bytes = record { strings = take 44 bytes; start = start }
+
+-- "they become the channel's immediate record": where they do
+abbrev pub recordBy : Bool → ℕ → List ℕ → Immediate → Immediate
+recordBy built start bytes i = pick built (builtFrom start bytes) i

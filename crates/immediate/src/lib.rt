@@ -2,17 +2,18 @@
 use words::word_in;
 ghost use mathlib.Core.Path.{_≡_};
 ghost use Prim.Native.Nat.{_≤_};
-ghost use lib.ListN.{length, take};
+ghost use lib.ListN.{length};
 ghost use Rattle.strings.specs.Number.{numberOf};
 ghost use Rattle.records.specs.declared.kinds.Kind.the-variants.{One, Two};
 ghost use Rattle.words.specs.Good.{isGood};
-ghost use Rattle.immediate.specs.Kept.{areGood, hasRecord};
+ghost use Rattle.immediate.specs.Kept.{areGood, hasRecord, builtFrom};
 
-// The strings 1 to 4 that the latest immediate record was read from. Where their words are not in
-// range, as in a reset row's zeros, there is no record.
+// The strings 1 to 4 that the latest immediate record was read from, and the start of their frame.
+// Where their words are not in range, as in a reset row's zeros, there is no record.
 #[repr(C)]
 pub struct Immediate {
     pub strings: [u8; 44],
+    pub start: u32,
 }
 
 // Whether there is a record: its four strings are in range.
@@ -60,11 +61,14 @@ fn has_interval(two: &[u8]) -> bool
     tb <= 95
 }
 
-// The record that the first four of fifteen strings become.
-pub fn first_four(all: [u8; 165]) -> Immediate
-    ensures { λ r. ⌜ r .strings ≡ take 44 all ⌝ }
+// The record that the first four of fifteen strings of a frame become.
+pub fn first_four(all: [u8; 165], start: u32) -> Immediate
+    ensures { λ r. ⌜ r ≡ builtFrom start all ⌝ }
 {
     let mut four = [0u8; 44];
     bytes::copy(&all[0..44], &mut four);
-    Immediate { strings: four }
+    Immediate {
+        strings: four,
+        start,
+    }
 }

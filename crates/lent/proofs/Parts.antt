@@ -33,7 +33,7 @@ use Rattle.lent.proofs.Item.{lowly, Lows, lows-set, in-field, out-field
 
 -- ---- how many bytes a row and an entry have, and where in a station its book begins
 abbrev pub rowBytes : ℕ
-rowBytes = 276
+rowBytes = 280
 
 abbrev pub entryBytes : ℕ
 entryBytes = 24

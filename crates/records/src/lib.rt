@@ -22,3 +22,4 @@ pub use named::string1_of;
 pub use named::string2_of;
 pub use named::string3_of;
 pub use named::string4_of;
+pub use named::string5_of;

@@ -8,6 +8,7 @@ mod block_stream;
 mod cards;
 mod float_calls;
 mod line;
+mod navigation_calls;
 mod numbers;
 mod salvage_call;
 mod station_answers;
@@ -30,6 +31,7 @@ use libc::STDIN_FILENO;
 use libc::STDOUT_FILENO;
 use line::Text;
 use line::put_text;
+use navigation_calls::navigation_call;
 use numbers::pair;
 use salvage_call::salvage_call;
 use station::Station;
@@ -79,6 +81,7 @@ fn told(request: u8, card: u8, payload: &[u8], st: Station, text: &mut Text) -> 
         15 => float_call(payload, text),
         16 => record_call(payload, text),
         17 => salvage_call(payload, text),
+        18 | 24 | 25 => navigation_call(request, payload, st, text),
         _ => NO_LINE,
     }
 }

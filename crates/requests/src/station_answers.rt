@@ -63,13 +63,16 @@ pub(crate) fn say_emptied(text: &mut Text, w: Written) -> usize
     }
 }
 
-// `ok` and the 26 words of strings 1 to 4.
+// `ok`, the 26 words of strings 1 to 4, and the start of their frame.
 pub(crate) fn say_immediate(text: &mut Text, f: RecordFound) -> usize
     ensures { λ n. ⌜ n ≤ 512 ⌝ }
 {
     match f {
         RecordFound::Refused(r) => say_no(text, r),
-        RecordFound::Found(w) => put_immediate(text, w),
+        RecordFound::Found(w, start) => {
+            let words = put_immediate(text, w);
+            put_next(text, words, start as u64)
+        }
     }
 }
 

@@ -31,7 +31,7 @@ nothing st c = test 13 (not (hasRecord (keptAt st c))) ∷ []
 -- ---- a call that is not let in
 module _ (st : Station) (card c : ℕ) (why : Refusal) (n : Enters card c (Shut why)) where
   pub record-shut : FindsRecord st card c (NoRecord why)
-  record-shut = record { answer = n .1 ∙ sym (shut-says card c (nothing st c) [] (n .0)); words = λ w q. no-record q }
+  record-shut = record { answer = n .1 ∙ sym (shut-says card c (nothing st c) [] (n .0)); words = λ w start q. no-record q }
 
   pub tallies-shut : FindsTallies st card c (NoTallies why)
   unfolding FindsTallies
@@ -46,12 +46,12 @@ module _ (st : Station) (card c i : ℕ) (n : Enters card c (Open i)) where
   pub record-missing : hasRecord (keptAt st i) ≡ false → FindsRecord st card c (NoRecord Nothing)
   record-missing h =
       entered (λ (k : ℕ). FindsRecord st card k (NoRecord Nothing)) card n
-      (λ f. record { answer = sym (open-says card i (nothing st i) [] f ∙ rw h); words = λ w q. no-record q })
+      (λ f. record { answer = sym (open-says card i (nothing st i) [] f ∙ rw h); words = λ w start q. no-record q })
 
-  pub record-there : hasRecord (keptAt st i) ≡ true → (w : ImmediateWords) → w ≡ immediateOf (keptAt st i .strings) → FindsRecord st card c (FoundRecord w)
+  pub record-there : hasRecord (keptAt st i) ≡ true → (w : ImmediateWords) → w ≡ immediateOf (keptAt st i .strings) → FindsRecord st card c (FoundRecord w (keptAt st i .start))
   record-there h w e =
-      entered (λ (k : ℕ). FindsRecord st card k (FoundRecord w)) card n
-      (λ f. record { answer = sym (open-says card i (nothing st i) [] f ∙ rw h); words = λ v q. sym (one-record q) ∙ e })
+      entered (λ (k : ℕ). FindsRecord st card k (FoundRecord w (keptAt st i .start))) card n
+      (λ f. record { answer = sym (open-says card i (nothing st i) [] f ∙ rw h); words = λ v start q. let o = one-record q in (sym (o .0) ∙ e, sym (o .1)) })
 
   pub tallies-there : FindsTallies st card c (FoundTallies (rowAt st i .tallies))
   unfolding FindsTallies

@@ -34,7 +34,7 @@ use Rattle.channel.specs.History.{recordAfter}
 use Rattle.channel.proofs.HeldFrame.{held-is, taken-exactly}
 use Rattle.channel.proofs.Counting.{refused-only, taken-counted}
 use Rattle.channel.proofs.TrueCounts.{tallies-are, tallies-add-up}
-use Rattle.channel.proofs.LatestRecord.{record-is}
+use Rattle.channel.proofs.LatestRecord.{record-is, start-is}
 use Rattle.channel.proofs.Relock.{every-phase}
 use Rattle.station.specs.declared.Station.{Station}
 use Rattle.station.specs.declared.Stepped.{Stepped}
@@ -95,9 +95,12 @@ pub counted : (cs : List Call) (st : Station) → Runs cs st → (card c : ℕ) 
 counted cs st run card c e =
     let i = in-step cs st run .run c (served-below card c e) in
     let t = tallies-are (callsOn c cs) (rowAt st c) i in
+    let start = start-is (callsOn c cs) (rowAt st c) i in
     record {
       frame = held-is (callsOn c cs) (rowAt st c) i;
       kept = record-is (callsOn c cs) (rowAt st c) i;
+      kept-start = start;
+      told-start = λ q w told f. f .words w told refl .1 ∙ start;
       offered = t .offered;
       clean = t .clean;
       repaired = t .repaired;

@@ -65,7 +65,7 @@ use Rattle.station.proofs.EveryHistory.{some-answer, offer-answers, res
 use Rattle.station.proofs.Refusals.{Fitting, settles-first, settles-then, settles, taken-says, untouched}
 
 -- an answer, where no second fits
-one : (A : Type 0) (Fits : A → Type 0) → ((r q : A) → Fits r → Fits q → r ≡ q) → (r : A) → Fits r → OneAnswer A Fits
+pub one : (A : Type 0) (Fits : A → Type 0) → ((r q : A) → Fits r → Fits q → r ≡ q) → (r : A) → Fits r → OneAnswer A Fits
 one A Fits once r f = record { answer = r; fits = f; only = λ q g. once q r g f }
 
 -- ---- the calls on a station
@@ -83,10 +83,10 @@ module _ (st : Station) where
       let ts = recordTests st card c in
       ⊎-elim
       (λ (z : firstOf ts ≡ 0).
-      one RecordFound (FindsRecord st card c) (records-once st card c) (FoundRecord (immediateOf (keptAt st c .strings)))
-      (record { answer = taken-says ts [] z; words = λ w q. sym (one-record q) }))
+      one RecordFound (FindsRecord st card c) (records-once st card c) (FoundRecord (immediateOf (keptAt st c .strings)) (keptAt st c .start))
+      (record { answer = taken-says ts [] z; words = λ w start q. let o = one-record q in (sym (o .0), sym (o .1)) }))
       (λ (f : Fitting ts).
-      one RecordFound (FindsRecord st card c) (records-once st card c) (NoRecord (f .refusal)) (record { answer = f .says []; words = λ w q. no-record q }))
+      one RecordFound (FindsRecord st card c) (records-once st card c) (NoRecord (f .refusal)) (record { answer = f .says []; words = λ w start q. no-record q }))
       (settles ts tt)
 
   entry-one : (card slot : ℕ) → OneAnswer EntryFound (FindsEntry st card slot)

@@ -51,7 +51,7 @@ module _ (card : ℕ) (st : Station) where
 -- ---- a card's own
 module _ (card : ℕ) (st st′ : Station) (agree : AgreeFor card st st′) where
   -- an answer by the gate, and then by the channel's row alone
-  by-row : (c : ℕ) (tests : Row → List Test) (told : Row → List ℕ)
+  pub by-row : (c : ℕ) (tests : Row → List Test) (told : Row → List ℕ)
       → answerOf (gateTests card c ++ tests (rowAt st c)) (told (rowAt st c)) ≡ answerOf (gateTests card c ++ tests (rowAt st′ c)) (told (rowAt st′ c))
   by-row c tests told = by (isServed card c) refl
     where
@@ -62,8 +62,8 @@ module _ (card : ℕ) (st st′ : Station) (agree : AgreeFor card st st′) wher
       by false e = shut-says card c (tests (rowAt st c)) (told (rowAt st c)) e ∙ sym (shut-says card c (tests (rowAt st′ c)) (told (rowAt st′ c)) e)
 
   -- a call that is not let in finds no record
-  shut-finds : (x : Station) (c : ℕ) (w : ImmediateWords) → FindsRecord x card c (FoundRecord w) → isServed card c ≡ false → ⊥
-  shut-finds x c w a q = shut-not-zero card c q (a .answer ∙ shut-says card c (test 13 (not (hasRecord (rowAt x c .immediate))) ∷ []) [] q)
+  shut-finds : (x : Station) (c : ℕ) (w : ImmediateWords) (start : ℕ) → FindsRecord x card c (FoundRecord w start) → isServed card c ≡ false → ⊥
+  shut-finds x c w start a q = shut-not-zero card c q (a .answer ∙ shut-says card c (test 13 (not (hasRecord (rowAt x c .immediate))) ∷ []) [] q)
 
   said-alike : (c epoch : ℕ) (s : List ℕ)
       → answerOf (stationTests st card c epoch s) (toldIn st c epoch s) ≡ answerOf (stationTests st′ card c epoch s) (toldIn st′ c epoch s)
@@ -73,13 +73,17 @@ module _ (card : ℕ) (st st′ : Station) (agree : AgreeFor card st st′) wher
   records-alike c r r′ a b = by r r′ (a .answer ∙ by-row c (λ x. test 13 (not (hasRecord (x .immediate))) ∷ []) (λ x. []) ∙ sym (b .answer)) a b
     where
       by : (r r′ : RecordFound) → recordPaper r ≡ recordPaper r′ → FindsRecord st card c r → FindsRecord st′ card c r′ → r ≡ r′
-      by (FoundRecord w) (FoundRecord v) e a b = ap FoundRecord (words (isServed card c) refl)
+      by (FoundRecord w s) (FoundRecord v t) e a b = found (isServed card c) refl
         where
-          words : (t : Bool) → isServed card c ≡ t → w ≡ v
-          words true q = a .words w refl ∙ ap (λ (x : Row). immediateOf (x .immediate .strings)) (agree c (served-below card c q) (owner-is card c q)) ∙ sym (b .words v refl)
-          words false q = absurd (shut-finds st c w a q)
-      by (FoundRecord w) (NoRecord q) e a b = absurd (not-taken q [] (sym e))
-      by (NoRecord p) (FoundRecord v) e a b = absurd (not-taken p [] e)
+          found : (served : Bool) → isServed card c ≡ served → FoundRecord w s ≡ FoundRecord v t
+          found true q =
+              let same = agree c (served-below card c q) (owner-is card c q) in
+              let x = a .words w s refl in
+              let y = b .words v t refl in
+              ap₂ FoundRecord (x .0 ∙ ap (λ (z : Row). immediateOf (z .immediate .strings)) same ∙ sym (y .0)) (x .1 ∙ ap (λ (z : Row). z .immediate .start) same ∙ sym (y .1))
+          found false q = absurd (shut-finds st c w s a q)
+      by (FoundRecord w s) (NoRecord q) e a b = absurd (not-taken q [] (sym e))
+      by (NoRecord p) (FoundRecord v s) e a b = absurd (not-taken p [] e)
       by (NoRecord p) (NoRecord q) e a b = ap NoRecord (refusal-same p q e)
 
   module _ (long : length (st .rows) ≡ channels) (long′ : length (st′ .rows) ≡ channels) where

@@ -1,7 +1,7 @@
 -- A station that is asked has one answer (records-once, entries-once, tallies-once, summaries-once, health-once), and each number is given exactly where its test
 -- is the first to fit (records-exactly, entries-exactly, tallies-exactly, summaries-exactly, health-exactly).
 -- Assumes nothing.
-use mathlib.Core.Path.{_≡_, refl, sym, ap, _∙_}
+use mathlib.Core.Path.{_≡_, refl, sym, ap, ap₂, _∙_}
 use mathlib.Core.List.{List, [], _∷_}
 use Prim.Native.Nat.{ℕ}
 use lib.Dec.{eqb}
@@ -30,9 +30,10 @@ use Rattle.station.specs.Queries.{recordTests, recordPaper, FindsRecord,
 -- ---- the immediate record
 -- NO SECOND ANSWER FITS
 pub records-once : (st : Station) (card c : ℕ) (r q : RecordFound) → FindsRecord st card c r → FindsRecord st card c q → r ≡ q
-records-once st card c (FoundRecord w) (FoundRecord v) a b = ap FoundRecord (a .words w refl ∙ sym (b .words v refl))
-records-once st card c (FoundRecord w) (NoRecord q) a b = absurd (not-taken q [] (b .answer ∙ sym (a .answer)))
-records-once st card c (NoRecord p) (FoundRecord v) a b = absurd (not-taken p [] (a .answer ∙ sym (b .answer)))
+records-once st card c (FoundRecord w p) (FoundRecord v q) a b =
+    let x = a .words w p refl in let y = b .words v q refl in ap₂ FoundRecord (x .0 ∙ sym (y .0)) (x .1 ∙ sym (y .1))
+records-once st card c (FoundRecord w s) (NoRecord q) a b = absurd (not-taken q [] (b .answer ∙ sym (a .answer)))
+records-once st card c (NoRecord p) (FoundRecord v s) a b = absurd (not-taken p [] (a .answer ∙ sym (b .answer)))
 records-once st card c (NoRecord p) (NoRecord q) a b = ap NoRecord (refusal-same p q (a .answer ∙ sym (b .answer)))
 
 -- "The first that fits is given, and given only then"

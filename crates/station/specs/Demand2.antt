@@ -11,11 +11,13 @@ use lib.ListN.{length, getD}
 use Rattle.strings.specs.Pick.{pick, isOneOf}
 use Rattle.tallies.specs.Tallies.{isOffer, isClean, isRepaired, isRefused, causes, isRefusedBy, causeOf, limit, howMany}
 use Rattle.tallies.specs.Counts.{AddUp}
+use Rattle.records.specs.declared.named.ImmediateWords.{ImmediateWords}
 use Rattle.immediate.specs.Kept.{recordIn}
-use Rattle.channel.specs.History.{heldAfter, outcomes, recordAfter}
+use Rattle.channel.specs.History.{heldAfter, outcomes, recordAfter, recordStart}
 use Rattle.station.specs.declared.Station.{Station}
+use Rattle.station.specs.declared.RecordFound.the-variants.{Found as FoundRecord}
 use Rattle.station.specs.Station.{rowAt, heldAt}
-use Rattle.station.specs.Queries.{keptAt}
+use Rattle.station.specs.Queries.{keptAt, FindsRecord}
 use Rattle.station.specs.History.{Call, Offer, Reset, isOn, callsOn}
 use Rattle.station.specs.Said.{Said}
 
@@ -54,10 +56,12 @@ pub record Tallied (all : List Said) (st : Station) (c : ℕ) : Type 0 where
   pub refused : rowAt st c .tallies .refused ≡ min 4294967295 (count saysNo (answersSince c all))
   pub cause : (k : ℕ) → isOneOf causes k ≡ true → causeOf (rowAt st c .tallies) k ≡ min 4294967295 (count (saysNumber k) (answersSince c all))
 
--- ---- from the calls alone; and the frame and the record of the row
+-- ---- from the calls alone; and the frame and the record of the row, with the start that is answered with its words
 pub record Counted (cs : List Call) (st : Station) (c : ℕ) : Type 0 where
   pub frame : heldAt st c ≡ heldAfter (callsOn c cs)
   pub kept : recordIn (keptAt st c) ≡ recordAfter (callsOn c cs)
+  pub kept-start : keptAt st c .start ≡ recordStart (callsOn c cs)
+  pub told-start : (card : ℕ) (w : ImmediateWords) (start : ℕ) → FindsRecord st card c (FoundRecord w start) → start ≡ recordStart (callsOn c cs)
   pub offered : rowAt st c .tallies .offered ≡ min limit (howMany isOffer (outcomes (callsOn c cs)))
   pub clean : rowAt st c .tallies .clean ≡ min limit (howMany isClean (outcomes (callsOn c cs)))
   pub repaired : rowAt st c .tallies .repaired ≡ min limit (howMany isRepaired (outcomes (callsOn c cs)))

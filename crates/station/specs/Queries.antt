@@ -44,13 +44,13 @@ abbrev pub recordTests : Station → ℕ → ℕ → List Test
 recordTests st card c = gateTests card c ++ (test 13 (not (hasRecord (keptAt st c))) ∷ [])
 
 abbrev pub recordPaper : RecordFound → List ℕ
-recordPaper (FoundRecord w) = 0 ∷ []
+recordPaper (FoundRecord w start) = 0 ∷ []
 recordPaper (NoRecord q) = refusalPaper q
 
--- and where it is there, its words
+-- and where it is there, its words and "its frame's start"
 pub record FindsRecord (st : Station) (card c : ℕ) (r : RecordFound) : Type 0 where
   pub answer : recordPaper r ≡ answerOf (recordTests st card c) []
-  pub words : (w : ImmediateWords) → r ≡ FoundRecord w → w ≡ immediateOf (keptAt st c .strings)
+  pub words : (w : ImmediateWords) (start : ℕ) → r ≡ FoundRecord w start → (w ≡ immediateOf (keptAt st c .strings)) × (start ≡ keptAt st c .start)
 
 -- ---- an entry: 16, 14, 13. A card reaches "the book with its summary", whichever card brought the entry
 -- SLOT: "slot not 1..24"

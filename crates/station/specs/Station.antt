@@ -46,7 +46,7 @@ freshStation = record { rows = replicate channels emptyRow; book = emptyBook; su
 
 -- past the rows stands a row of nothing, which no call looks at
 unfoldable pub noRow : Row
-noRow = record { strings = []; start = 0; present = 0; immediate = record { strings = [] }; tallies = noneCounted }
+noRow = record { strings = []; start = 0; present = 0; immediate = record { strings = []; start = 0 }; tallies = noneCounted }
 
 -- a channel's row, and the frame that it holds
 abbrev pub rowAt : Station → ℕ → Row

@@ -8,6 +8,7 @@ use book::Book;
 use book::Entry;
 use channel::Answer;
 use channel::Row;
+pub use entering::enter;
 pub use entering::gate_number;
 pub use offering::fresh;
 pub use offering::next_summary;
@@ -57,9 +58,9 @@ pub struct Emptied {
     pub answer: Written,
 }
 
-// The words of a channel's immediate record, or why not.
+// The words of a channel's immediate record and the start of its frame, or why not.
 pub enum RecordFound {
-    Found(ImmediateWords),
+    Found(ImmediateWords, u32),
     Refused(Refusal),
 }
 

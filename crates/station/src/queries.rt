@@ -21,7 +21,7 @@ ghost use mathlib.Core.Path.{_≡_};
 ghost use Prim.Native.Nat.{_/_, _%_};
 ghost use Rattle.station.specs.Queries.{FindsRecord, FindsEntry, FindsTallies, FindsSummary, FindsHealth, healthBy, lOf, modelOf, lCounted, judged};
 
-// The words of a channel's immediate record.
+// The words of a channel's immediate record, and the start of the frame that it was read from.
 pub fn immediate_of(st: Station, card: u8, channel: u8) -> RecordFound
     ensures { λ r. ⌜ FindsRecord st card channel r ⌝ }
 {
@@ -35,7 +35,7 @@ pub fn immediate_of(st: Station, card: u8, channel: u8) -> RecordFound
                 return RecordFound::Refused(Refusal::Nothing);
             }
             let s = four.strings;
-            RecordFound::Found(immediate_words(s))
+            RecordFound::Found(immediate_words(s), four.start)
         }
     }
 }

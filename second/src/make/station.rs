@@ -8,6 +8,7 @@ mod frames;
 mod health;
 pub(super) mod health_flags;
 pub(super) mod limit;
+pub(super) mod navigation;
 pub(super) mod polarity;
 pub(super) mod record;
 mod refusals;

@@ -2,7 +2,7 @@
 
 use crate::refusal::Refusal;
 use crate::string::{NavString, DATA};
-use crate::words::kinds::{ALMANAC_C, EVEN, L, ODD};
+use crate::words::kinds::{ALMANAC_C, EVEN, H, L, ODD};
 
 pub const SLOTS: usize = 24;
 
@@ -28,17 +28,29 @@ impl Entry {
         }
     }
 
-    /// The seven words of the even half and the five of the odd half, which are all
-    /// but l, in the paper's order.
-    pub fn words(&self) -> Vec<i64> {
+    /// The two halves again, without m, l and check bits.
+    fn halves(&self) -> (NavString, NavString) {
         let (mut even, mut odd) = (NavString::zero(), NavString::zero());
         even.set_number(DATA, self.even);
         odd.set_number(DATA_WITHOUT_L, self.odd);
+        (even, odd)
+    }
+
+    /// The seven words of the even half and the five of the odd half, which are all
+    /// but l, in the paper's order.
+    pub fn words(&self) -> Vec<i64> {
+        let (even, odd) = self.halves();
         let words_of_odd = ODD.words.iter().filter(|&&word| word != L);
         let words_of_even = EVEN.words.iter().map(|word| word.value_in(&even));
         words_of_even
             .chain(words_of_odd.map(|word| word.value_in(&odd)))
             .collect()
+    }
+
+    /// H, its meaning: the number of the carrier that the satellite sends on.
+    pub fn carrier(&self) -> i64 {
+        let (_, odd) = self.halves();
+        H.value_in(&odd)
     }
 
     /// C: the satellite was fit for use when the almanac was uploaded.

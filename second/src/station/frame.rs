@@ -33,6 +33,10 @@ impl Frame {
         }
     }
 
+    pub fn start(&self) -> u32 {
+        self.start
+    }
+
     pub fn string(&self, m: usize) -> Option<&NavString> {
         self.strings[m - 1].as_ref()
     }

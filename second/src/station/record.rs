@@ -21,6 +21,8 @@ const TYPE_WITHOUT_L: i64 = 0b00;
 
 #[derive(Clone, Debug, PartialEq, Eq)]
 pub struct ImmediateRecord {
+    /// The start of the frame that it was read from.
+    pub start: u32,
     /// The words of the four strings in the paper's order, 26 in all.
     pub words: Vec<i64>,
     /// n, the satellite that sends.
@@ -35,14 +37,15 @@ pub fn strings_of_record(frame: &Frame) -> Option<[NavString; 4]> {
     Some([first?, second?, third?, fourth?])
 }
 
-/// RANGE where tk or tb is out of range.
-pub fn read_record(strings: &[NavString; 4]) -> Result<ImmediateRecord, Refusal> {
+/// From the strings of the frame with this start. RANGE where tk or tb is out of range.
+pub fn read_record(start: u32, strings: &[NavString; 4]) -> Result<ImmediateRecord, Refusal> {
     let mut words = Vec::new();
     for (kind, string) in KINDS_OF_A_RECORD.iter().zip(strings) {
         words.extend(read_words(kind, string)?);
     }
     let [_, second, third, fourth] = strings;
     Ok(ImmediateRecord {
+        start,
         words,
         satellite: SATELLITE.read(fourth)? as usize,
         is_unfit: is_unfit_by_b(second) || is_unfit_by_l(third, fourth),

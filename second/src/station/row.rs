@@ -68,6 +68,16 @@ impl Row {
         })
     }
 
+    /// String 5 of the frame that the record was read from: "once the row holds another frame
+    /// its string 5 counts as missing".
+    pub fn string_5_of_record(&self) -> Option<&NavString> {
+        let (record, frame) = (self.record.as_ref()?, self.frame.as_ref()?);
+        match frame.start() == record.start {
+            true => frame.string(5),
+            false => None,
+        }
+    }
+
     /// "A first string starts one", a frame.
     fn place_of(&self, start: u32, string: &NavString) -> Result<Place, Refusal> {
         match &self.frame {
@@ -88,7 +98,7 @@ impl Row {
         let Some(strings) = strings_of_record(frame) else {
             return News::Kept;
         };
-        let Ok(record) = read_record(&strings) else {
+        let Ok(record) = read_record(start, &strings) else {
             return News::RecordOutOfRange;
         };
         self.record = Some(record);

@@ -42,10 +42,10 @@ pub fn answer_to_reset(answer: Result<(), Refusal>) -> Answer {
     answer.map(|()| String::from("ok"))
 }
 
-/// The 26 words of strings 1 to 4.
+/// The 26 words of strings 1 to 4, and the start of their frame.
 pub fn immediate(station: &Station, card: u8, payload: &[u8]) -> Option<Answer> {
     let answer = station.immediate(card, only_byte(payload)?);
-    Some(answer.map(|record| format!("ok {}", in_decimal(&record.words))))
+    Some(answer.map(|record| format!("ok {} {}", in_decimal(&record.words), record.start)))
 }
 
 /// Bits 80..9 and bits 80..10, each as a number of 18 hex digits.
@@ -115,7 +115,7 @@ fn no_byte(payload: &[u8]) -> Option<()> {
 }
 
 /// A channel or a slot, and nothing after it.
-fn only_byte(payload: &[u8]) -> Option<usize> {
+pub fn only_byte(payload: &[u8]) -> Option<usize> {
     match payload {
         &[byte] => Some(usize::from(byte)),
         _ => None,

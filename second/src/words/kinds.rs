@@ -68,11 +68,14 @@ const fn coordinate(name: &'static str) -> Word {
 /// The sender's health flag in strings 5, 7, 9, 11, 13 and 15.
 pub const L: Word = plain("l", 9, 9);
 
-/// Words that the ranges, the frame rules, the book and the health rule name.
+/// Words that the ranges, the frame rules, the book, the health rule and the navigation record
+/// name.
 pub const TK: Word = word("tk", 76, 65, Form::TimeOfDay);
+pub const TB: Word = within("tb", 76, 70, 1, 95);
 pub const H: Word = word("H", 14, 10, Form::Carrier);
 pub const B: Word = plain("B", 80, 78);
 pub const L_OF_STRING_3: Word = plain("l", 65, 65);
+pub const DAY: Word = plain("NT", 26, 16);
 pub const SATELLITE: Word = plain("n", 15, 11);
 pub const SATELLITE_TYPE: Word = plain("M", 10, 9);
 pub const ALMANAC_DAY: Word = within("NA", 80, 70, 1, 1461);
@@ -98,7 +101,7 @@ pub static STRING_2: Kind = Kind {
     words: &[
         B,
         plain("P2", 77, 77),
-        within("tb", 76, 70, 1, 95),
+        TB,
         velocity("y velocity"),
         acceleration("y acceleration"),
         coordinate("y"),
@@ -128,7 +131,7 @@ pub static STRING_4: Kind = Kind {
         plain("E", 53, 49),
         plain("P4", 34, 34),
         plain("FT", 33, 30),
-        plain("NT", 26, 16),
+        DAY,
         SATELLITE,
         SATELLITE_TYPE,
     ],

@@ -1,5 +1,5 @@
 //! The station: frames, record, book, its summary, health, tallies, two cards, blocks, and the
-//! listing over it.
+//! listing and navigation records over it.
 
 mod block;
 mod book;
@@ -10,6 +10,7 @@ mod frames;
 mod health;
 mod isolation;
 mod listing;
+mod navigation;
 mod polarity;
 mod record;
 mod refusals;

@@ -14,6 +14,10 @@ fn x_of_record(station: &Station) -> Result<i64, Refusal> {
     station.immediate(ONE, 0).map(|record| record.words[4])
 }
 
+fn start_of_record(station: &Station) -> Result<u32, Refusal> {
+    station.immediate(ONE, 0).map(|record| record.start)
+}
+
 #[test]
 fn the_string_that_completes_the_four_builds_the_record() {
     for last in 0..4 {
@@ -26,7 +30,7 @@ fn the_string_that_completes_the_four_builds_the_record() {
         }
         let news = offer_in_frame(&mut station, 0, 30, &last);
         assert_eq!(news, Ok(News::RecordBuilt));
-        assert!(station.immediate(ONE, 0).is_ok());
+        assert_eq!(start_of_record(&station), Ok(30));
     }
 }
 
@@ -91,6 +95,7 @@ fn the_record_is_kept_when_the_next_four_are_out_of_range() {
             [Ok(News::Kept), Ok(News::Kept), Ok(News::RecordOutOfRange)]
         );
         assert_eq!(x_of_record(&station), Ok(0));
+        assert_eq!(start_of_record(&station), Ok(30));
     }
 }
 
@@ -128,11 +133,22 @@ fn the_next_frame_replaces_the_record() {
     take_all(&mut station, 0, 30, &strings_1_to_4(0, 1));
     take_all(&mut station, 0, 45, &[string_1(5), string_2(0), string_3()]);
     assert_eq!(x_of_record(&station), Ok(0));
+    assert_eq!(start_of_record(&station), Ok(30));
     assert_eq!(
         offer_in_frame(&mut station, 0, 45, &string_4(1)),
         Ok(News::RecordBuilt)
     );
     assert_eq!(x_of_record(&station), Ok(5));
+    assert_eq!(start_of_record(&station), Ok(45));
+}
+
+#[test]
+fn starts_of_records_have_32_bits() {
+    for start in [0, 1, 1 << 31, u32::MAX - 14, u32::MAX - 3] {
+        let mut station = Station::default();
+        take_all(&mut station, 0, start, &strings_1_to_4(0, 1));
+        assert_eq!(start_of_record(&station), Ok(start));
+    }
 }
 
 #[test]

@@ -89,7 +89,13 @@ impl Input {
         self.ask(asker, BLOCK, &block_of(calls));
     }
 
-    fn strings_by(&mut self, asker: Asker, channel: u8, start: u32, strings: &[NavString]) {
+    pub(super) fn strings_by(
+        &mut self,
+        asker: Asker,
+        channel: u8,
+        start: u32,
+        strings: &[NavString],
+    ) {
         let offers = self.offers(channel, start, strings);
         self.calls_by(asker, &offers);
     }

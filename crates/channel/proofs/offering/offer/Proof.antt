@@ -30,13 +30,13 @@ abbrev after : tie.After-offer-apart → Held
 after d = heldIn (d .offer-apart .result .head) (d .offer-apart .last .1 .0)
 
 -- the record by the answer
-kept : (c : tie.Joined1) → c .if1 .row ≡ holding (given (apart c)) (after (apart c)) (recordBy (tellsRecord (apart c .offer-apart .result .answer)) (after (apart c) .bytes) (given (apart c) .immediate))
+kept : (c : tie.Joined1) → c .if1 .row ≡ holding (given (apart c)) (after (apart c)) (recordBy (tellsRecord (apart c .offer-apart .result .answer)) (after (apart c) .start) (after (apart c) .bytes) (given (apart c) .immediate))
 kept c =
     let row = given (apart c) in
     let h = after (apart c) in
-    let by : Bool → Row = λ (t : Bool). holding row h (recordBy t (h .bytes) (row .immediate)) in
+    let by : Bool → Row = λ (t : Bool). holding row h (recordBy t (h .start) (h .bytes) (row .immediate)) in
     let e = c .before .is-built .ensures in
-    ⊎-elim (λ w. w .2 ∙ ap (λ (l : List ℕ). holding row h (record { strings = l })) (w .1 .ensures) ∙ ap by (sym (w .0 .taken) ∙ e))
+    ⊎-elim (λ w. w .2 ∙ ap (holding row h) (w .1 .ensures) ∙ ap by (sym (w .0 .taken) ∙ e))
     (λ w. w .1 ∙ ap by (sym (w .0 .left) ∙ e))
     (c .if1 .came)
 

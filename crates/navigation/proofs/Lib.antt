@@ -1,0 +1,4 @@
+pub mod Read
+pub mod Found
+pub mod Answered
+pub mod Laws
