@@ -4,7 +4,9 @@ use std::ffi::OsString;
 use std::io::{self, BufReader, BufWriter, Read, Write};
 use std::process::ExitCode;
 
+use second::navigation::file;
 use second::salvage::salvage;
+use second::station::card;
 use second::{listing, logger, make, trial};
 
 const USAGE: &str = "usage:
@@ -17,6 +19,7 @@ const USAGE: &str = "usage:
   second make logger SEED          write 2,000 plain strings for the logger
   second make torn SEED BYTES      write a torn file of so many bytes
   second make torn-edges SEED      write a torn file for windows of 256 KiB
+  second make navigation SEED      write records for the navigation file
   second make sample               write a few records for the listing
   second make sample trial         write the same records as an input for trial
   second answer trial              read an input for trial, write the expected output
@@ -27,6 +30,8 @@ const USAGE: &str = "usage:
   second answer salvage            read a torn file, write the fields that are kept
   second answer salvage-list       read a torn file, write a line for each skipped stretch
   second answer salvage-records    read a torn file, write the records of the kept offers
+  second answer navigation         read records, write the navigation file of card one
+  second answer navigation-two     read records, write the navigation file of card two
 SEED, COUNT and BYTES are decimal numbers from 0 to 18446744073709551615.";
 
 const WRONG_ARGUMENTS: u8 = 2;
@@ -42,6 +47,7 @@ enum Command {
     MakeLogger { seed: u64 },
     MakeTorn { seed: u64, count: u64 },
     MakeTornEdges { seed: u64 },
+    MakeNavigation { seed: u64 },
     MakeSampleListing,
     AnswerTrial,
     AnswerLimit,
@@ -51,6 +57,7 @@ enum Command {
     AnswerSalvage,
     AnswerSalvageList,
     AnswerSalvageRecords,
+    AnswerNavigation { card: u8 },
 }
 
 fn main() -> ExitCode {
@@ -98,6 +105,9 @@ fn parse(arguments: &[OsString]) -> Option<Command> {
         ["make", "torn-edges", seed] => Command::MakeTornEdges {
             seed: seed.parse().ok()?,
         },
+        ["make", "navigation", seed] => Command::MakeNavigation {
+            seed: seed.parse().ok()?,
+        },
         ["make", "sample"] => Command::MakeSampleListing,
         ["answer", "trial"] => Command::AnswerTrial,
         ["answer", "limit"] => Command::AnswerLimit,
@@ -107,6 +117,8 @@ fn parse(arguments: &[OsString]) -> Option<Command> {
         ["answer", "salvage"] => Command::AnswerSalvage,
         ["answer", "salvage-list"] => Command::AnswerSalvageList,
         ["answer", "salvage-records"] => Command::AnswerSalvageRecords,
+        ["answer", "navigation"] => Command::AnswerNavigation { card: card::ONE },
+        ["answer", "navigation-two"] => Command::AnswerNavigation { card: card::TWO },
         _ => return None,
     };
     Some(command)
@@ -125,6 +137,7 @@ fn run(command: Command) -> io::Result<()> {
         Command::MakeLogger { seed } => output.write_all(&make::logger_input(seed))?,
         Command::MakeTorn { seed, count } => make::write_torn(seed, count, &mut output)?,
         Command::MakeTornEdges { seed } => output.write_all(&make::torn_edges(seed))?,
+        Command::MakeNavigation { seed } => output.write_all(&make::navigation_input(seed))?,
         Command::MakeSampleListing => output.write_all(&make::sample_for_listing())?,
         Command::AnswerTrial => {
             output.write_all(trial::answer_input(&whole_input()?).as_bytes())?
@@ -147,6 +160,9 @@ fn run(command: Command) -> io::Result<()> {
             output.write_all(salvage(&whole_input()?).list().as_bytes())?
         }
         Command::AnswerSalvageRecords => output.write_all(&salvage(&whole_input()?).records())?,
+        Command::AnswerNavigation { card } => {
+            file::answer_stream(card, BufReader::new(io::stdin().lock()), &mut output)?
+        }
     }
     output.flush()
 }

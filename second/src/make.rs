@@ -1,5 +1,5 @@
-//! Makes inputs: requests for `trial`, records for the listing, a long block, strings for
-//! the logger and torn files, from a seed.
+//! Makes inputs: requests for `trial`, records for the listing and the navigation file, a long
+//! block, strings for the logger and torn files, from a seed.
 
 mod damage;
 mod faults;
@@ -7,6 +7,7 @@ mod feed;
 mod field_feed;
 mod hearing;
 mod logger;
+mod navigation;
 mod numbers;
 mod salvage;
 mod sample;
@@ -100,6 +101,11 @@ pub fn write_torn(seed: u64, count: u64, output: &mut impl Write) -> io::Result<
 /// A torn file with something across each edge of a window.
 pub fn torn_edges(seed: u64) -> Vec<u8> {
     torn_edges::file(seed)
+}
+
+/// Records for the navigation file, and a few bytes of one more.
+pub fn navigation_input(seed: u64) -> Vec<u8> {
+    navigation::capture(seed)
 }
 
 /// 65,540 repaired strings on one channel, without a seed.

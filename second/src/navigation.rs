@@ -1,6 +1,7 @@
-//! The navigation record: RINEX 2.11, for a GLONASS satellite.
+//! The navigation record: RINEX 2.11, for a GLONASS satellite. A file is made of them.
 
 pub mod epoch;
+pub mod file;
 pub mod number;
 
 use crate::refusal::Refusal;

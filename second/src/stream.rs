@@ -2,6 +2,21 @@
 
 use std::io::{self, Read, Write};
 
+/// Hands over each whole piece; bytes left over are not looked at.
+pub fn for_each_whole<const LENGTH: usize>(
+    mut input: impl Read,
+    mut take: impl FnMut(&[u8; LENGTH]) -> io::Result<()>,
+) -> io::Result<()> {
+    let mut piece = [0; LENGTH];
+    loop {
+        match input.read_exact(&mut piece) {
+            Ok(()) => take(&piece)?,
+            Err(error) if error.kind() == io::ErrorKind::UnexpectedEof => return Ok(()),
+            Err(error) => return Err(error),
+        }
+    }
+}
+
 /// Prints the answer to each piece. "Bytes left over print `short` and their count." Only one
 /// piece is held at a time.
 pub fn answer_each<const LENGTH: usize>(

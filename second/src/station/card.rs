@@ -1,5 +1,7 @@
 //! The two cards over one station, and which channels each of them may ask for.
 
+use std::ops::Range;
+
 use crate::refusal::Refusal;
 
 /// "Two cards of 24 channels."
@@ -40,6 +42,15 @@ pub fn reach_row(card: u8, channel: usize) -> Result<(), Refusal> {
     match asking == owner {
         true => Ok(()),
         false => Err(Refusal::Owner),
+    }
+}
+
+/// In order; none for a card that there is not.
+pub fn channels_of(card: u8) -> Range<usize> {
+    match card {
+        ONE => 0..CHANNELS_OF_A_CARD,
+        TWO => CHANNELS_OF_A_CARD..2 * CHANNELS_OF_A_CARD,
+        _ => 0..0,
     }
 }
 

@@ -1,5 +1,5 @@
 //! The station: frames, record, book, its summary, health, tallies, two cards, blocks, and the
-//! listing and navigation records over it.
+//! listing, navigation records and their file over it.
 
 mod block;
 mod book;
@@ -11,6 +11,7 @@ mod health;
 mod isolation;
 mod listing;
 mod navigation;
+mod navigation_file;
 mod polarity;
 mod record;
 mod refusals;

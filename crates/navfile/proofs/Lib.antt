@@ -1,0 +1,9 @@
+pub mod Answered
+pub mod Stays
+pub mod Due
+pub mod Found
+pub mod Moments
+pub mod Lost
+pub mod Pieces
+pub mod InBlocks
+pub mod Telling
