@@ -7,7 +7,7 @@ use std::process::ExitCode;
 use second::navigation::file;
 use second::salvage::salvage;
 use second::station::card;
-use second::{listing, logger, make, trial};
+use second::{listing, logger, make, sky, trial};
 
 const USAGE: &str = "usage:
   second make trial SEED           write an input for trial
@@ -20,6 +20,7 @@ const USAGE: &str = "usage:
   second make torn SEED BYTES      write a torn file of so many bytes
   second make torn-edges SEED      write a torn file for windows of 256 KiB
   second make navigation SEED      write records for the navigation file
+  second make sky SEED             write the words of a sky
   second make sample               write a few records for the listing
   second make sample trial         write the same records as an input for trial
   second answer trial              read an input for trial, write the expected output
@@ -32,6 +33,7 @@ const USAGE: &str = "usage:
   second answer salvage-records    read a torn file, write the records of the kept offers
   second answer navigation         read records, write the navigation file of card one
   second answer navigation-two     read records, write the navigation file of card two
+  second answer sky                read the words of a sky, write its line symbols
 SEED, COUNT and BYTES are decimal numbers from 0 to 18446744073709551615.";
 
 const WRONG_ARGUMENTS: u8 = 2;
@@ -48,6 +50,7 @@ enum Command {
     MakeTorn { seed: u64, count: u64 },
     MakeTornEdges { seed: u64 },
     MakeNavigation { seed: u64 },
+    MakeSky { seed: u64 },
     MakeSampleListing,
     AnswerTrial,
     AnswerLimit,
@@ -58,6 +61,7 @@ enum Command {
     AnswerSalvageList,
     AnswerSalvageRecords,
     AnswerNavigation { card: u8 },
+    AnswerSky,
 }
 
 fn main() -> ExitCode {
@@ -108,6 +112,9 @@ fn parse(arguments: &[OsString]) -> Option<Command> {
         ["make", "navigation", seed] => Command::MakeNavigation {
             seed: seed.parse().ok()?,
         },
+        ["make", "sky", seed] => Command::MakeSky {
+            seed: seed.parse().ok()?,
+        },
         ["make", "sample"] => Command::MakeSampleListing,
         ["answer", "trial"] => Command::AnswerTrial,
         ["answer", "limit"] => Command::AnswerLimit,
@@ -119,6 +126,7 @@ fn parse(arguments: &[OsString]) -> Option<Command> {
         ["answer", "salvage-records"] => Command::AnswerSalvageRecords,
         ["answer", "navigation"] => Command::AnswerNavigation { card: card::ONE },
         ["answer", "navigation-two"] => Command::AnswerNavigation { card: card::TWO },
+        ["answer", "sky"] => Command::AnswerSky,
         _ => return None,
     };
     Some(command)
@@ -138,6 +146,7 @@ fn run(command: Command) -> io::Result<()> {
         Command::MakeTorn { seed, count } => make::write_torn(seed, count, &mut output)?,
         Command::MakeTornEdges { seed } => output.write_all(&make::torn_edges(seed))?,
         Command::MakeNavigation { seed } => output.write_all(&make::navigation_input(seed))?,
+        Command::MakeSky { seed } => output.write_all(&make::sky_words(seed))?,
         Command::MakeSampleListing => output.write_all(&make::sample_for_listing())?,
         Command::AnswerTrial => {
             output.write_all(trial::answer_input(&whole_input()?).as_bytes())?
@@ -163,6 +172,7 @@ fn run(command: Command) -> io::Result<()> {
         Command::AnswerNavigation { card } => {
             file::answer_stream(card, BufReader::new(io::stdin().lock()), &mut output)?
         }
+        Command::AnswerSky => output.write_all(&sky::answer_input(&whole_input()?))?,
     }
     output.flush()
 }

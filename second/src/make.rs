@@ -1,5 +1,5 @@
 //! Makes inputs: requests for `trial`, records for the listing and the navigation file, a long
-//! block, strings for the logger and torn files, from a seed.
+//! block, strings for the logger, torn files and the words of a sky, from a seed.
 
 mod damage;
 mod faults;
@@ -12,6 +12,7 @@ mod numbers;
 mod salvage;
 mod sample;
 mod satellite;
+mod sky;
 mod station;
 mod strings;
 mod tearing;
@@ -52,6 +53,7 @@ pub fn trial_input(seed: u64) -> Vec<u8> {
             salvage::add_all,
             station::cards::add_all,
             station::navigation::add_all,
+            sky::add_all,
         ],
     )
 }
@@ -106,6 +108,11 @@ pub fn torn_edges(seed: u64) -> Vec<u8> {
 /// Records for the navigation file, and a few bytes of one more.
 pub fn navigation_input(seed: u64) -> Vec<u8> {
     navigation::capture(seed)
+}
+
+/// The words of a sky that is not refused.
+pub fn sky_words(seed: u64) -> Vec<u8> {
+    sky::words(seed)
 }
 
 /// 65,540 repaired strings on one channel, without a seed.

@@ -6,7 +6,7 @@ pub mod number;
 
 use crate::refusal::Refusal;
 use crate::scaled::Scaled;
-use crate::station::record::{ImmediateRecord, KINDS_OF_A_RECORD};
+use crate::station::record::{by_string, ImmediateRecord};
 use crate::station::Station;
 use crate::words::kinds::{DAY, FOUR_YEAR_PERIOD};
 use crate::words::word::Word;
@@ -50,7 +50,7 @@ impl Navigation {
         period: i64,
         carrier: i64,
     ) -> Result<Navigation, Refusal> {
-        let [first, second, third, fourth] = by_string(record);
+        let [first, second, third, fourth] = by_string(&record.words);
         let ([_, tk, x @ ..], [b, _, tb, y @ ..]) = (first, second) else {
             unreachable!("the words of strings 1 and 2");
         };
@@ -103,16 +103,6 @@ impl Navigation {
         }
         text
     }
-}
-
-/// The words of a record, those of each string apart.
-fn by_string(record: &ImmediateRecord) -> [&[i64]; 4] {
-    let mut rest = &record.words[..];
-    KINDS_OF_A_RECORD.map(|kind| {
-        let (own, behind) = rest.split_at(kind.words.len());
-        rest = behind;
-        own
-    })
 }
 
 /// From velocity, acceleration and coordinate, as they stand in a string, and one word more.

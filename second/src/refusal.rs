@@ -14,7 +14,7 @@ pub enum Refusal {
     Stale,
     OffBeat,
     Conflict,
-    /// Names the word that fails by its top bit number.
+    /// Names the word that fails by its top bit number, and of a sky the string, 1 to 75.
     Range {
         place: usize,
     },
@@ -28,6 +28,8 @@ pub enum Refusal {
     Card,
     /// "When the output is not 320 bytes": that of a navigation record.
     RecordRoom,
+    /// "When the entries are not slots 1..24 in order": those of a sky.
+    Order,
     /// Names a block's field by the place of its tag byte, counted from 0.
     Field {
         trouble: FieldTrouble,
@@ -113,6 +115,7 @@ impl Refusal {
             Refusal::Owner => 15,
             Refusal::Card => 16,
             Refusal::RecordRoom => 17,
+            Refusal::Order => 18,
             Refusal::Field { trouble, .. } => trouble.number(),
             Refusal::Full { room, .. } => room.number(),
         }

@@ -26,6 +26,8 @@ pub const WORD_AS_FLOAT: u8 = 15;
 pub const FOUR_STRINGS: u8 = 16;
 pub const SALVAGE: u8 = 17;
 pub const NAVIGATION: u8 = 18;
+pub const SKY: u8 = 19;
+pub const CHIP: u8 = 20;
 pub const ENTRY_WORDS: u8 = 23;
 pub const FIVE_OF: u8 = 24;
 pub const CARRIER: u8 = 25;
@@ -113,6 +115,9 @@ pub const LONGEST_FILE: usize = 96;
 
 /// A navigation record has at most so many bytes of room here.
 pub const LARGEST_ROOM: u16 = 1024;
+
+/// And the symbols of a sky so many.
+pub const LARGEST_ROOM_OF_A_SKY: u16 = 16_000;
 
 /// Four strings, each after its length in one byte, and nothing behind them.
 pub fn split_strings(mut payload: &[u8]) -> Option<[&[u8]; 4]> {

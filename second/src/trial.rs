@@ -5,6 +5,7 @@ mod block;
 mod host;
 mod navigation;
 mod salvage;
+mod sky;
 mod station;
 mod strings;
 mod words;
@@ -110,6 +111,8 @@ fn call_of_no_card(station: &mut Station, request: Request) -> Option<Answer> {
         request::WORD_AS_FLOAT => host::word(payload),
         request::FOUR_STRINGS => host::record(payload),
         request::SALVAGE => salvage::salvage(payload),
+        request::SKY => sky::symbols(payload),
+        request::CHIP => sky::chip(payload),
         _ => None,
     }
 }

@@ -1,6 +1,6 @@
 //! The numbers of the paper's table, 31 to 33 in the position of 3, 15 and 16 for cards, 17 for
-//! navigation records, 41 to 43 for the fields of a block, 44 and 45 for salvage, and SHAPE and
-//! IDLE where strings come in.
+//! navigation records, 18 for skies, 41 to 43 for the fields of a block, 44 and 45 for salvage,
+//! and SHAPE and IDLE where strings come in.
 
 use second::known::{a, A};
 use second::refusal::{FieldTrouble, Refusal, Room};
@@ -19,6 +19,7 @@ fn numbers_are_those_of_the_table() {
         Refusal::Owner,
         Refusal::Card,
         Refusal::RecordRoom,
+        Refusal::Order,
         Refusal::Field {
             trouble: FieldTrouble::UnknownTag,
             place: 0,
@@ -42,7 +43,7 @@ fn numbers_are_those_of_the_table() {
     ];
     let in_order = [&[Refusal::Channel][..], &CAUSES, &others].concat();
     let numbers: Vec<u8> = in_order.iter().map(|refusal| refusal.number()).collect();
-    let expected = [1, 2, 31, 32, 33].into_iter().chain(4..=17).chain(41..=45);
+    let expected = [1, 2, 31, 32, 33].into_iter().chain(4..=18).chain(41..=45);
     assert_eq!(numbers, expected.collect::<Vec<u8>>());
 }
 

@@ -4,9 +4,9 @@ use second::alter::with_number;
 use second::known::{a, received_frame, A, B, B_DAMAGED, B_INVERTED, FLIPS_THAT_DAMAGE};
 use second::relative::to_relative;
 use second::request::{
-    append, join_strings, values_to_bytes, whole_requests, Piece, BLOCK, CARRIER, CHECK, ENTRY,
-    ENTRY_WORDS, FIVE_OF, FOUR_STRINGS, FRESH, FROM_RELATIVE, HEALTH, IMMEDIATE, NAVIGATION, OFFER,
-    READ, RESET, SALVAGE, SUMMARY, TALLIES, TO_RELATIVE, WORD_AS_FLOAT, WRITE,
+    append, join_strings, values_to_bytes, whole_requests, Piece, BLOCK, CARRIER, CHECK, CHIP,
+    ENTRY, ENTRY_WORDS, FIVE_OF, FOUR_STRINGS, FRESH, FROM_RELATIVE, HEALTH, IMMEDIATE, NAVIGATION,
+    OFFER, READ, RESET, SALVAGE, SKY, SUMMARY, TALLIES, TO_RELATIVE, WORD_AS_FLOAT, WRITE,
 };
 use second::string::NavString;
 use second::{make, trial};
@@ -362,6 +362,66 @@ fn navigation_requests_of_another_length_are_bad() {
     }
 }
 
+/// The words of a made sky, behind the room and the string that is asked for.
+fn sky_in(room: u16, place: u8) -> Vec<u8> {
+    let [high, low] = room.to_be_bytes();
+    [&[high, low, place], &make::sky_words(7)[..]].concat()
+}
+
+/// In relative form string 1 begins with 000011, string 75, whose m is 15, with 010100. The
+/// mark is the last 30 symbols.
+#[test]
+fn a_sky_prints_the_symbols_of_one_string() {
+    for (place, first) in [(1, "ok 55a"), (75, "ok 665")] {
+        let line = answer_payload(SKY, &sky_in(15_000, place));
+        assert_eq!(line.len(), 3 + 50 + 1);
+        assert!(line.starts_with(first), "{line}");
+        let last = u32::from_str_radix(&line[45..53], 16).unwrap();
+        assert_eq!(last & 0x3FFF_FFFF, 0b111110001101110101000010010110);
+    }
+}
+
+#[test]
+fn a_sky_is_refused_or_bad() {
+    for (room, place, line) in [
+        (0, 1, "no 12\n"),
+        (14_999, 75, "no 12\n"),
+        (15_001, 1, "no 12\n"),
+        (16_000, 75, "no 12\n"),
+        (16_001, 1, "bad 19\n"),
+        (65_535, 1, "bad 19\n"),
+        (15_000, 0, "bad 19\n"),
+        (15_000, 76, "bad 19\n"),
+        (0, 255, "bad 19\n"),
+    ] {
+        assert_eq!(answer_payload(SKY, &sky_in(room, place)), line);
+    }
+    let good = sky_in(15_000, 1);
+    for length in [0, 1, 2, 3, 1_287, 1_290] {
+        assert_eq!(answer_payload(SKY, &good[..length]), "bad 19\n");
+    }
+    let longer = [&good[..], &[0]].concat();
+    assert_eq!(answer_payload(SKY, &longer), "bad 19\n");
+}
+
+#[test]
+fn a_chip_prints_0_or_1() {
+    for (number, line) in [
+        (0_u16, "ok 1\n"),
+        (6, "ok 1\n"),
+        (7, "ok 0\n"),
+        (11, "ok 0\n"),
+        (12, "ok 1\n"),
+        (511, "ok 1\n"),
+        (518, "ok 0\n"),
+    ] {
+        assert_eq!(answer_payload(CHIP, &number.to_be_bytes()), line);
+    }
+    for length in (0..300).filter(|&length| length != 2) {
+        assert_eq!(answer_payload(CHIP, &vec![0; length]), "bad 20\n");
+    }
+}
+
 #[test]
 fn a_word_prints_the_bits_of_its_float() {
     assert_eq!(answer(WORD_AS_FLOAT, 1, &A), "ok 0000000000000000\n");
@@ -598,7 +658,8 @@ fn the_made_input_draws_every_kind_of_line() {
         "no 7", "no 8", "no 9", "no 10 76", "no 11", "no 12", "no 13", "no 14", "taken 1 ",
         "no 41 ", "no 42 ", "no 43 ", "no 44 ", "no 45 ", "end", "bad 0", "bad 4", "bad 5",
         "bad 6", "bad 12", "bad 14", "bad 15", "bad 16", "bad 17", "bad 18", "bad 23", "bad 24",
-        "bad 25", "no 10 26", "no 10 36", "no 17", "short 10",
+        "bad 25", "no 10 26", "no 10 36", "no 17", "no 10 74", "no 18", "bad 19", "bad 20",
+        "short 10",
     ] {
         assert!(lines.lines().any(|line| line.starts_with(kind)), "{kind}");
     }
@@ -643,6 +704,8 @@ fn the_input_for_words_asks_no_station() {
         FOUR_STRINGS,
         SALVAGE,
         NAVIGATION,
+        SKY,
+        CHIP,
         ENTRY_WORDS,
         FIVE_OF,
         CARRIER,

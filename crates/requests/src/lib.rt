@@ -11,6 +11,9 @@ mod line;
 mod navigation_calls;
 mod numbers;
 mod salvage_call;
+mod sky_calls;
+mod sky_stream;
+mod sky_words;
 mod station_answers;
 mod station_calls;
 mod station_queries;
@@ -34,6 +37,9 @@ use line::put_text;
 use navigation_calls::navigation_call;
 use numbers::pair;
 use salvage_call::salvage_call;
+use sky_calls::chip_call;
+use sky_calls::sky_call;
+pub use sky_stream::write_sky;
 use station::Station;
 use station_calls::Answered;
 use station_calls::fresh_call;
@@ -82,6 +88,8 @@ fn told(request: u8, card: u8, payload: &[u8], st: Station, text: &mut Text) -> 
         16 => record_call(payload, text),
         17 => salvage_call(payload, text),
         18 | 24 | 25 => navigation_call(request, payload, st, text),
+        19 => sky_call(payload, text),
+        20 => chip_call(payload, text),
         _ => NO_LINE,
     }
 }

@@ -21,7 +21,7 @@ ghost use Prim.Native.Nat.{_≤_};
 ghost use lib.ListN.{length};
 
 // The words of a request, as many as the longest kind has.
-struct Words {
+pub(crate) struct Words {
     first: i32,
     second: i32,
     third: i32,
@@ -68,7 +68,7 @@ fn record_from(k: Kind, w: Words) -> Record {
     }
 }
 
-fn string1_from(w: Words) -> String1 {
+pub(crate) fn string1_from(w: Words) -> String1 {
     String1 {
         p1: w.first,
         tk: w.second,
@@ -78,7 +78,7 @@ fn string1_from(w: Words) -> String1 {
     }
 }
 
-fn string2_from(w: Words) -> String2 {
+pub(crate) fn string2_from(w: Words) -> String2 {
     String2 {
         b: w.first,
         p2: w.second,
@@ -89,7 +89,7 @@ fn string2_from(w: Words) -> String2 {
     }
 }
 
-fn string3_from(w: Words) -> String3 {
+pub(crate) fn string3_from(w: Words) -> String3 {
     String3 {
         p3: w.first,
         gamma: w.second,
@@ -101,7 +101,7 @@ fn string3_from(w: Words) -> String3 {
     }
 }
 
-fn string4_from(w: Words) -> String4 {
+pub(crate) fn string4_from(w: Words) -> String4 {
     String4 {
         tau: w.first,
         dtau: w.second,
@@ -114,7 +114,7 @@ fn string4_from(w: Words) -> String4 {
     }
 }
 
-fn string5_from(w: Words) -> String5 {
+pub(crate) fn string5_from(w: Words) -> String5 {
     String5 {
         na: w.first,
         tauc: w.second,
@@ -124,7 +124,7 @@ fn string5_from(w: Words) -> String5 {
     }
 }
 
-fn even_from(w: Words) -> EvenString {
+pub(crate) fn even_from(w: Words) -> EvenString {
     EvenString {
         c: w.first,
         ma: w.second,
@@ -136,7 +136,7 @@ fn even_from(w: Words) -> EvenString {
     }
 }
 
-fn odd_from(w: Words) -> OddString {
+pub(crate) fn odd_from(w: Words) -> OddString {
     OddString {
         omega: w.first,
         tlambda: w.second,
@@ -147,7 +147,7 @@ fn odd_from(w: Words) -> OddString {
     }
 }
 
-fn string14_from(w: Words) -> String14 {
+pub(crate) fn string14_from(w: Words) -> String14 {
     String14 {
         b1: w.first,
         b2: w.second,
@@ -156,7 +156,7 @@ fn string14_from(w: Words) -> String14 {
 }
 
 // Those past the end of the bytes are 0.
-fn words_in(s: &[u8]) -> Words {
+pub(crate) fn words_in(s: &[u8]) -> Words {
     Words {
         first: word(s, 0),
         second: word(s, 1),

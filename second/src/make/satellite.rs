@@ -2,6 +2,8 @@
 
 use crate::alter::{with_code, with_m};
 use crate::random::SplitMix64;
+pub use crate::sky::FRAMES_IN_A_SUPERFRAME;
+use crate::sky::PAIRS_IN_A_FRAME;
 use crate::station::almanac::DAYS_IN_FOUR_YEARS;
 use crate::station::book::SLOTS;
 use crate::string::NavString;
@@ -10,8 +12,6 @@ use crate::words::kinds::{
     STRING_2, STRING_3, STRING_4, STRING_5, TK,
 };
 
-pub const FRAMES_IN_A_SUPERFRAME: usize = 5;
-const PAIRS_IN_A_FRAME: usize = 5;
 const LAST_DAY: u128 = DAYS_IN_FOUR_YEARS as u128;
 
 /// N4 and NA.

@@ -4,6 +4,7 @@ mod reading;
 mod writing;
 
 use super::Input;
+pub(super) use writing::values_beyond;
 
 pub(super) fn add_all(input: &mut Input) {
     reading::add_all(input);

@@ -52,6 +52,16 @@ pub fn read_record(start: u32, strings: &[NavString; 4]) -> Result<ImmediateReco
     })
 }
 
+/// The 26 words of a record, those of each string apart.
+pub fn by_string(words: &[i64]) -> [&[i64]; 4] {
+    let mut rest = words;
+    KINDS_OF_A_RECORD.map(|kind| {
+        let (own, behind) = rest.split_at(kind.words.len());
+        rest = behind;
+        own
+    })
+}
+
 fn is_unfit_by_b(second: &NavString) -> bool {
     B.value_in(second) & TOP_BIT_OF_B != 0
 }

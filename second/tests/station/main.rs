@@ -16,6 +16,7 @@ mod polarity;
 mod record;
 mod refusals;
 mod relock;
+mod sky;
 mod strings;
 mod summary;
 mod summary_asked;

@@ -205,7 +205,7 @@ fn values_at_ends(word: &Word) -> Vec<i64> {
 }
 
 /// The same, but only those that are refused.
-fn values_beyond(word: &Word) -> Vec<i64> {
+pub(in super::super) fn values_beyond(word: &Word) -> Vec<i64> {
     let mut values = values_at_ends(word);
     values.retain(|&value| !word.is_legal(value));
     values

@@ -1,0 +1,4 @@
+pub mod Line
+pub mod Mark
+pub mod Front
+pub mod Calls

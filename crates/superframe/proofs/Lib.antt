@@ -1,0 +1,4 @@
+pub mod Table41
+pub mod Places
+pub mod Encoder
+pub mod Lowest

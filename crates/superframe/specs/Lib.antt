@@ -1,0 +1,3 @@
+pub mod Table41
+pub mod Sky
+pub mod Refused
