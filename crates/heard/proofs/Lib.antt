@@ -1,0 +1,10 @@
+pub mod Taking
+pub mod OneFrame
+pub mod Showing
+pub mod FiveFrames
+pub mod Sky
+pub mod Days
+pub mod FromWords
+pub mod SkyHeard
+pub mod SomeSky
+pub mod Laws

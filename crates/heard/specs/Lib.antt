@@ -1,0 +1,4 @@
+pub mod Heard
+pub mod SkyHeard
+pub mod Laws
+pub mod Witness
