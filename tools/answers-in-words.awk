@@ -66,9 +66,9 @@ function tell_causes(t,    k, told) {
     if (told) print "  refused: " told
 }
 
-# Whether there is a record: then w has its words by their names.
+# Whether there is a record: then w has its words by their names. Behind them stands the start of its frame.
 function has_record(channel,    value, k) {
-    if (split(record[channel], value, " ") != 1 + words) return 0
+    if (split(record[channel], value, " ") != 2 + words) return 0
     for (k = 1; k <= words; k++) w[name[k]] = value[1 + k]
     return 1
 }
