@@ -4,13 +4,13 @@ use mathlib.Core.Path.{_≡_, refl, sym, ap, ap₂, subst, _∙_}
 use mathlib.Core.Bool.{Bool, true, false, _&&_}
 use mathlib.Core.List.{[], _∷_}
 use mathlib.Core.Logic.{⊎-elim}
-use Prim.Native.Nat.{ℕ, suc, _+_, _-_, _%_, _≤_, _<_}
+use Prim.Native.Nat.{ℕ, suc, _+_, _-_, _≤_, _<_}
 use native.Mathlib.Omega.{arith}
 use borrow.Author.Tests.{eq-eqb, ne-eqb, lt-ltb, le-ltb, eqb-true, eqb-false}
 use lib.Arith.{lt-of-le-ne}
 use lib.Dec.{eqb, ltb}
 use Rattle.strings.specs.Pick.{pick}
-use Rattle.strings.specs.Number.{bitOf, numberOf, misshapen}
+use Rattle.strings.specs.Number.{numberOf, misshapen}
 use Rattle.strings.specs.declared.Verdict.the-variants.{Clean}
 use Rattle.strings.specs.Hamming.{ruling, isDamaged, mended}
 use Rattle.strings.specs.Numbers.{firstOf, placeOf, saidBy}
@@ -21,9 +21,9 @@ use Rattle.strings.proofs.Shape.{string-shaped}
 use Rattle.strings.proofs.Flips.{encoded-ruling}
 use Rattle.strings.proofs.Judge.{mended-by}
 use Rattle.strings.proofs.SoundTests.{IsSound}
-use Rattle.relative.specs.Relative.{readRelative, writeRelative}
+use Rattle.relative.specs.Relative.{writeRelative}
 use Rattle.relative.specs.Polarity.{firstSymbol}
-use Rattle.relative.proofs.RelativeCode.{read-written, written-lt, bit-written}
+use Rattle.relative.proofs.RelativeCode.{written-lt, first-written}
 use Rattle.hearing.specs.Hears.{plainOf, wholeOf}
 use Rattle.hearing.proofs.Hearing.{heard-then}
 use Rattle.words.specs.Calls.{numberIn}
@@ -31,6 +31,7 @@ use Rattle.channel.specs.Frame.{Frame, emptyFrame, withString, startOf, isHere,
 use Rattle.channel.specs.Offers.{newsNumber, offerTests, toldTo}
 use Rattle.channel.specs.History.{frameAfter, saidTo}
 use Rattle.sky.specs.Line.{relativeBytes}
+use Rattle.sky.proofs.Strings.{plain-back}
 use Rattle.heard.specs.Heard.{Sendable, Ready, HasFirst}
 
 -- ---- what the relative form brings
@@ -40,8 +41,7 @@ module _ (n m : ℕ) (s : Sendable n m) where
   brings-shape = string-shaped (writeRelative n) (written-lt n)
 
   pub brings-plain : plainOf (relativeBytes n) ≡ n
-  unfolding relativeBytes
-  brings-plain = ap readRelative (string-number (writeRelative n) (written-lt n)) ∙ read-written n (s .small)
+  brings-plain = plain-back n (s .small)
 
   stays : mended n ≡ n
   stays = mended-by n Clean (encoded-ruling n (s .encoded))
@@ -54,11 +54,8 @@ module _ (n m : ℕ) (s : Sendable n m) where
 
   -- it is upright, since its first symbol is bit 85
   pub brings-upright : firstSymbol (numberOf (relativeBytes n)) ≡ 0
-  unfolding relativeBytes firstSymbol
-  brings-upright =
-      ap (λ (x : ℕ). bitOf x 85) (string-number (writeRelative n) (written-lt n))
-      ∙ bit-written n 85 (omega arith) (omega arith)
-      ∙ ap (λ (b : ℕ). (b + 0) % 2) (high-bit n 85 84 (s .small) (omega arith))
+  unfolding relativeBytes
+  brings-upright = ap firstSymbol (string-number (writeRelative n) (written-lt n)) ∙ first-written n (s .small)
 
   sounds : IsSound (plainOf (relativeBytes n))
   sounds =

@@ -3,18 +3,20 @@
 use mathlib.Core.Path.{_≡_, refl, sym, ap, subst, _∙_}
 use mathlib.Core.Bool.{Bool, true, false, not, true≢false}
 use mathlib.Core.List.{List, [], _∷_, _++_}
-use Prim.Native.Nat.{ℕ, zero, suc, _+_, _-_, _*_, _≤_, _<_}
+use Prim.Native.Nat.{ℕ, zero, suc, _+_, _-_, _*_, _^_, _≤_, _<_}
 use native.Mathlib.Omega.{arith}
 use borrow.Author.Tests.{eq-eqb, ne-eqb, eqb-true, eqb-false, not-false, ltb-true, ltb-false}
 use lib.Dec.{T, eqb, ltb, lit<}
 use lib.ListN.{length, getD, List·getD-append}
 use Rattle.strings.specs.Pick.{pick}
+use Rattle.strings.specs.Number.{numberOf}
 use Rattle.strings.specs.Numbers.{refusalPaper, test, testAt, answerOf, Exactly}
 use Rattle.strings.specs.declared.Refusal.{Refusal}
 use Rattle.strings.specs.declared.Refusal.the-variants.{Channel, Shape, Damaged, Idle, Number, Early, Stale, OffBeat, Conflict, Range, Place, Room, Nothing, Slot, Owner, Card}
 use Rattle.strings.specs.declared.hamming.Damage.the-variants.{Unplaced, Even, Outside}
 use Rattle.strings.proofs.Answer.{refuses, goes-on, takes, same-answer, refusalOf, refusal-known, exactly, first-given, taken-made, refused-left}
 use Rattle.strings.proofs.Below.{unfit}
+use Rattle.relative.specs.Relative.{readRelative}
 use Rattle.superframe.specs.declared.Sky.{Sky}
 use Rattle.superframe.specs.Sky.{skyString}
 use Rattle.superframe.specs.Refused.{wrongSlot, lowestBad, Makes}
@@ -22,10 +24,10 @@ use Rattle.superframe.proofs.Lowest.{refusals}
 use Rattle.sky.specs.declared.Made.{Made}
 use Rattle.sky.specs.declared.Made.the-variants.{Done, OutOfOrder, Refused}
 use Rattle.sky.specs.Mark.{mark, sequence, fiveOnes, mark-shortened}
-use Rattle.sky.specs.Line.{relativeBytes, symbolOf, linesOf, skyLines, LineLaws}
+use Rattle.sky.specs.Line.{relativeBytes, symbolOf, linesOf, skyLines, heardIn, LineLaws}
 use Rattle.sky.specs.Calls.{madePaper, makeTests, MakesSky, MakeLaws}
 use Rattle.sky.proofs.Lines.{lines-long, lines-small, first-half, second-half, mark-in}
-use Rattle.sky.proofs.Strings.{string-small, idle-sent, read-back}
+use Rattle.sky.proofs.Strings.{string-small, idle-sent, read-back, plain-back}
 
 -- ---- THE SYMBOLS OF EVERY SKY
 module _ (sky : Sky) where
@@ -48,6 +50,13 @@ module _ (sky : Sky) where
   unfolding skyLines
   sky-second i j l u = second-half sent 75 i j l u
 
+  -- no string of a sky that is not refused has bit 85
+  small-in : Makes sky → (i : ℕ) → i < 75 → skyString sky (suc i) < 2 ^ 84
+  small-in o i l = string-small sky (refusals sky .made o .1) (suc i) (omega arith) (omega arith)
+
+  sky-plain : Makes sky → (i : ℕ) → i < 75 → readRelative (numberOf (heardIn (skyLines sky) (suc i))) ≡ skyString sky (suc i)
+  sky-plain o i l = ap (λ (s : List ℕ). readRelative (numberOf s)) (read-back sky i l) ∙ plain-back (skyString sky (suc i)) (small-in o i l)
+
   sky-mark : (i j : ℕ) → i < 75 → j < 30 → getD (skyLines sky) (200 * i + 170 + j) 0 ≡ getD mark j 0
   unfolding skyLines
   sky-mark i j l u = mark-in sent 75 i j l u
@@ -64,12 +73,12 @@ module _ (sky : Sky) where
           let e : j ≡ 30 = omega (arith, ltb-false j 30 q) in
           let p : 200 * i + 170 + j ≡ 200 * suc i + 2 * 0 = omega arith in
           ap (λ (k : ℕ). getD (skyLines sky) k 0) p ∙ sky-first (suc i) 0 (omega arith) (lit< tt)
-          ∙ idle-sent (skyString sky (suc (suc i))) (string-small sky (refusals sky .made o .1) (suc (suc i)) (omega arith) (omega arith))
+          ∙ idle-sent (skyString sky (suc (suc i))) (small-in o (suc i) (omega arith))
           ∙ ap (λ (k : ℕ). getD (sequence 31 fiveOnes) k 0) (sym e)
 
   pub line-laws : LineLaws sky
   line-laws =
-      record { long = sky-long; small = sky-small; first = sky-first; second = sky-second; heard = read-back sky; marked = sky-mark; completed = sky-whole }
+      record { long = sky-long; small = sky-small; first = sky-first; second = sky-second; heard = read-back sky; plain = sky-plain; marked = sky-mark; completed = sky-whole }
 
 -- ---- the answers, test by test
 module _ (sky : Sky) (out : List ℕ) where

@@ -16,10 +16,10 @@ use Rattle.strings.proofs.Digits.{bit-lt, bits-same, from-lt, bit-from}
 use Rattle.strings.proofs.Value.{Bytes, string-length, string-number, bit-at}
 use Rattle.strings.proofs.Shape.{string-shaped}
 use Rattle.strings.proofs.Encode.{encode-stays}
-use Rattle.relative.specs.Relative.{writeRelative}
+use Rattle.relative.specs.Relative.{readRelative, writeRelative}
 use Rattle.relative.specs.Polarity.{firstSymbol}
 use Rattle.relative.specs.Calls.{WritesRelative}
-use Rattle.relative.proofs.RelativeCode.{written-lt, first-written, writes, writes-once}
+use Rattle.relative.proofs.RelativeCode.{written-lt, first-written, read-written, writes, writes-once}
 use Rattle.records.specs.declared.named.Record.{Record}
 use Rattle.records.specs.Records.{kindOf, listOf}
 use Rattle.records.proofs.RecordLists.{list-long}
@@ -97,3 +97,8 @@ read-back sky i l =
     (from-same _ (bitOf x) 85
     (λ b l′ u. ap (λ (k : ℕ). getD (linesOf f 75) (k + 2 * (85 - b)) 0) z ∙ first-half f 75 i (85 - b) l (omega arith) ∙ symbol-bit x b (written-lt (skyString sky (suc i))) l′ u)
     ∙ from-bits x (written-lt (skyString sky (suc i))))
+
+-- in plain form too
+pub plain-back : (n : ℕ) → n < 2 ^ 84 → readRelative (numberOf (relativeBytes n)) ≡ n
+unfolding relativeBytes
+plain-back n h = ap readRelative (string-number (writeRelative n) (written-lt n)) ∙ read-written n h

@@ -5,8 +5,8 @@ use Prim.Native.Nat.{ℕ, zero, suc, _+_, _-_, _/_, _*_, _%_, _^_, _<_}
 use mathlib.Core.List.{List, [], _∷_, _++_}
 use mathlib.Core.Path.{_≡_}
 use lib.ListN.{length, getD, take, drop}
-use Rattle.strings.specs.Number.{stringBytes, fromBits}
-use Rattle.relative.specs.Relative.{writeRelative}
+use Rattle.strings.specs.Number.{stringBytes, numberOf, fromBits}
+use Rattle.relative.specs.Relative.{readRelative, writeRelative}
 use Rattle.superframe.specs.declared.Sky.{Sky}
 use Rattle.superframe.specs.Sky.{skyString}
 use Rattle.superframe.specs.Refused.{Makes}
@@ -53,6 +53,8 @@ pub record LineLaws (sky : Sky) : Type 0 where
   pub second : (i j : ℕ) → i < 75 → j < 85 → getD (skyLines sky) (200 * i + 2 * j + 1) 0 ≡ 1 - symbolOf (relativeBytes (skyString sky (suc i))) j
   -- so a reader gets the 75 strings back
   pub heard : (i : ℕ) → i < 75 → heardIn (skyLines sky) (suc i) ≡ relativeBytes (skyString sky (suc i))
+  -- and from them, by the relative code's reading, the plain strings
+  pub plain : Makes sky → (i : ℕ) → i < 75 → readRelative (numberOf (heardIn (skyLines sky) (suc i))) ≡ skyString sky (suc i)
   -- behind the halves stands the mark; and with the first half of the idle bit of the next string it is the whole sequence
   pub marked : (i j : ℕ) → i < 75 → j < 30 → getD (skyLines sky) (200 * i + 170 + j) 0 ≡ getD mark j 0
   pub completed : Makes sky → (i j : ℕ) → i < 74 → j < 31 → getD (skyLines sky) (200 * i + 170 + j) 0 ≡ getD (sequence 31 fiveOnes) j 0
