@@ -28,7 +28,7 @@ use Rattle.superframe.proofs.Table41.{table-4-1}
 use Rattle.station.specs.declared.Station.{Station}
 use Rattle.station.specs.Station.{channels, isServed, shutSays, rowAt, heldAt}
 use Rattle.station.specs.Queries.{keptAt}
-use Rattle.station.specs.History.{Call, cardOf, channelOf, itself, isOn, callsOn, Part, whole, ShownIn, Runs, saidOn, saidAfter}
+use Rattle.station.specs.History.{Call, cardOf, channelOf, itself, isOn, callsOn, callsBy, Part, whole, ShownIn, Runs, saidOn, saidAfter}
 use Rattle.station.proofs.ChannelRuns.{on-another, calls-same, calls-other, in-step}
 use Rattle.station.proofs.BookRule.{book-full}
 use Rattle.station.proofs.Demands.{counted, answered}
@@ -56,14 +56,14 @@ on-it card c served call =
     (eq-eqb (channelOf (onChannel card c call)) c (label-is card c call))
 
 pub calls-own : (card c : ℕ) → isServed card c ≡ true → (cs : List OnChannel) → callsOn c (map (onChannel card c) cs) ≡ cs
-unfolding callsOn
+unfolding callsBy
 calls-own card c served [] = refl
 calls-own card c served (call ∷ cs) =
     calls-same c (onChannel card c call) (map (onChannel card c) cs) (on-it card c served call)
     ∙ ap₂ (λ (x : OnChannel) (xs : List OnChannel). x ∷ xs) (label-off card c call) (calls-own card c served cs)
 
 pub calls-none : (card c k : ℕ) → (k ≡ c → ⊥) → (cs : List OnChannel) → callsOn k (map (onChannel card c) cs) ≡ []
-unfolding callsOn
+unfolding callsBy
 calls-none card c k n [] = refl
 calls-none card c k n (call ∷ cs) =
     calls-other k (onChannel card c call) (map (onChannel card c) cs)

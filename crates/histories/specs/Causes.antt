@@ -21,7 +21,7 @@ use Rattle.channel.specs.Witness.{whole, inBytes, sent, sentWrong, one, five, s
 use Rattle.station.specs.declared.Station.{Station}
 use Rattle.station.specs.Station.{freshStation, noRow, rowAt, isServed, stationAfter, stationReset}
 use Rattle.station.specs.Queries.{allCounts}
-use Rattle.station.specs.History.{Call, Offer, Reset, callsOn, stationOf}
+use Rattle.station.specs.History.{Call, Offer, Reset, callsOn, callsBy, stationOf}
 
 -- two calls on channel 4 before the reset, and one on channel 5
 abbrev pub before : List Call
@@ -77,5 +77,5 @@ pub record TenCauses : Type 0 where
   pub other-told : allCounts (rowAt left 5 .tallies) ≡ 1 ∷ 0 ∷ 0 ∷ 1 ∷ 1 ∷ 0 ∷ 0 ∷ 0 ∷ 0 ∷ 0 ∷ 0 ∷ 0 ∷ 0 ∷ 0 ∷ []
 
 pub ten-causes : TenCauses
-unfolding soundTests numberOf paddingOf misshapen wordOf flip stringBytes readRelative writeRelative firstSymbol position sumC sumAll syndrome sumsSet highest placed judge ruling mended sumsMade encode layout valuesOf firstBad isGood oneMore causesAfter isPresent holdsFrame emptyRow newFrame stored heldWith counted takenRow heldAfter saidSince whole inBytes sent sentWrong one five six1 oneUnplaced oneEven oneOutside freshStation noRow isServed stationAfter stationReset callsOn stationOf left
+unfolding soundTests numberOf paddingOf misshapen wordOf flip stringBytes readRelative writeRelative firstSymbol position sumC sumAll syndrome sumsSet highest placed judge ruling mended sumsMade encode layout valuesOf firstBad isGood oneMore causesAfter isPresent holdsFrame emptyRow newFrame stored heldWith counted takenRow heldAfter saidSince whole inBytes sent sentWrong one five six1 oneUnplaced oneEven oneOutside freshStation noRow isServed stationAfter stationReset callsBy stationOf left
 ten-causes = record { said = refl; counted-alone = refl; before-reset = refl; told = refl; other-told = refl }

@@ -33,7 +33,7 @@ use Rattle.station.specs.declared.Health.{Health}
 use Rattle.station.specs.declared.Health.the-variants.{Unknown, Usable, NotUsable}
 use Rattle.station.specs.Station.{freshStation, noRow, rowAt, isServed, stationTests, toldIn, stationAfter, stationReset}
 use Rattle.station.specs.Queries.{keptAt, recordTests, entryTests, threeNumbers, judged, healthBy}
-use Rattle.station.specs.History.{Call, Offer, Reset, callsOn, saidAfter, whole as all, earlier, ShownIn, stationOf}
+use Rattle.station.specs.History.{Call, Offer, Reset, callsOn, callsBy, saidAfter, whole as all, earlier, ShownIn, stationOf}
 use Rattle.station.proofs.AfterOffer.{same-station}
 
 -- ---- strings in bytes, as they are sent, besides those of a channel's table: there `five` is of day 8766, `six1` has nA 1 and C 0, `three` has l 0, and
@@ -302,7 +302,7 @@ pub record Witness : Type 0 where
   pub record-channel : answerOf (recordTests goodEntry 1 48) [] ≡ 1 ∷ []
 
 pub witness : Witness
-unfolding whole inBytes sent sentDamaged one two three four four′ five six1 seven fourteen fifteen six2 sixAbove sixGood fiveNext twoIll threeRaised four00 four11 damaged soundTests numberOf paddingOf misshapen wordOf flip stringBytes readRelative writeRelative firstSymbol position sumC sumAll syndrome sumsSet highest placed judge ruling mended sumsMade encode layout valuesOf firstBad entryOf greater isGood dayOf isShown threeOf shownBy emptyBook joined joinedShown oneMore causesAfter isPresent holdsFrame hasRecord emptyRow newFrame stored heldWith counted takenRow frameBy brought changes noneFilled withLine walkFrom walkOf heldAfter freshStation noRow isServed stationAfter stationReset judged healthBy callsOn saidAfter stationOf half entry twoFrames twoChannels greaterLast greaterFirst tiedRows tiedBook nextDay sixLast recordAlone goodEntry illEntry illRecord raised01 raised10 raised11 raised00 illRaised00 laterRaised laterRecord
+unfolding whole inBytes sent sentDamaged one two three four four′ five six1 seven fourteen fifteen six2 sixAbove sixGood fiveNext twoIll threeRaised four00 four11 damaged soundTests numberOf paddingOf misshapen wordOf flip stringBytes readRelative writeRelative firstSymbol position sumC sumAll syndrome sumsSet highest placed judge ruling mended sumsMade encode layout valuesOf firstBad entryOf greater isGood dayOf isShown threeOf shownBy emptyBook joined joinedShown oneMore causesAfter isPresent holdsFrame hasRecord emptyRow newFrame stored heldWith counted takenRow frameBy brought changes noneFilled withLine walkFrom walkOf heldAfter freshStation noRow isServed stationAfter stationReset judged healthBy callsBy saidAfter stationOf half entry twoFrames twoChannels greaterLast greaterFirst tiedRows tiedBook nextDay sixLast recordAlone goodEntry illEntry illRecord raised01 raised10 raised11 raised00 illRaised00 laterRaised laterRecord
 witness =
     record {
       six2-sent = refl;

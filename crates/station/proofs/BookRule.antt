@@ -31,7 +31,7 @@ use Rattle.station.specs.declared.Station.{Station}
 use Rattle.station.specs.declared.Stepped.{Stepped}
 use Rattle.station.specs.declared.Emptied.{Emptied}
 use Rattle.station.specs.Station.{freshStation, rowAt, isServed, bookAfter, OffersTo, Resets}
-use Rattle.station.specs.History.{Call, Offer, Reset, cardOf, channelOf, itself, isLetIn, isOn, callsOn, Part, whole, earlier, pairs, ShownIn, Greatest, Runs, fresh, offering, resetting}
+use Rattle.station.specs.History.{Call, Offer, Reset, cardOf, channelOf, itself, isLetIn, isOn, callsOn, callsBy, Part, whole, earlier, pairs, ShownIn, Greatest, Runs, fresh, offering, resetting}
 use Rattle.station.proofs.Served.{served-below}
 use Rattle.station.proofs.ChannelRuns.{in-step, on-both, on-own, calls-same, calls-other, after-none, after-some, reset-none, reset-some}
 use Rattle.station.proofs.Holding.{Dated, Holding, holding-same, InShows, Right, AllRight, brought-full, holding-brought}
@@ -124,7 +124,7 @@ part-split call l m (whole cs) = inl refl
 part-split call l m (earlier n p cs q) = inr q
 
 module _ (call : Call) (cs : List Call) (k : ℕ) (u : Three) where
-  shown-kept : ShownIn cs k u → ShownIn (call ∷ cs) k u
+  pub shown-kept : ShownIn cs k u → ShownIn (call ∷ cs) k u
   shown-kept w =
       record {
         card = w .card;
@@ -244,7 +244,7 @@ record BookHolds (cs : List Call) (st : Station) : Type 0 where
 
 -- before any call nothing was shown
 none-shown : (k : ℕ) (u : Three) → ShownIn [] k u → ⊥
-unfolding callsOn heldAfter
+unfolding callsBy heldAfter
 none-shown k u w = by (w .moment) (w .within) (w .shows)
   where
     by : (m : List OnChannel) → Part m [] → shownAt (heldAfter m) (w .pair) ≡ At k (entryOf u) → ⊥

@@ -21,7 +21,7 @@ use Rattle.station.specs.declared.Station.{Station}
 use Rattle.station.specs.declared.Stepped.{Stepped}
 use Rattle.station.specs.declared.Emptied.{Emptied}
 use Rattle.station.specs.Station.{channels, freshStation, noRow, rowAt, heldAt, isServed, toldIn, bookAfter, summaryAfter, stationAfter, stationReset, OffersTo, Resets}
-use Rattle.station.specs.History.{Call, Offer, Reset, channelOf, itself, isLetIn, isOn, callsOn, Runs, fresh, offering, resetting}
+use Rattle.station.specs.History.{Call, Offer, Reset, channelOf, itself, isLetIn, isOn, callsOn, callsBy, Runs, fresh, offering, resetting}
 use Rattle.station.proofs.Served.{open-says, served-below}
 
 -- ---- one row
@@ -103,11 +103,11 @@ on-own call e = ap₂ (λ (t u : Bool). t && u) e (eq-eqb (channelOf call) (chan
 
 -- the calls on a channel, one call more
 pub calls-same : (c : ℕ) (call : Call) (cs : List Call) → isOn c call ≡ true → callsOn c (call ∷ cs) ≡ itself call ∷ callsOn c cs
-unfolding callsOn
+unfolding callsBy
 calls-same c call cs e = rw e
 
 pub calls-other : (c : ℕ) (call : Call) (cs : List Call) → isOn c call ≡ false → callsOn c (call ∷ cs) ≡ callsOn c cs
-unfolding callsOn
+unfolding callsBy
 calls-other c call cs e = rw e
 
 -- ---- the rows, each a channel's run
@@ -166,7 +166,7 @@ unfolding freshStation
 fresh-at c h = getD-replicate channels c emptyRow noRow h
 
 step-fresh : InStep [] freshStation
-unfolding callsOn
+unfolding callsBy
 step-fresh = record { long = fresh-long; run = λ c e. subst (ChannelRuns []) (sym (fresh-at c e)) fresh-row }
 
 -- an offer and a reset

@@ -13,7 +13,7 @@ use Rattle.station.specs.declared.Station.{Station}
 use Rattle.station.specs.declared.Stepped.{Stepped}
 use Rattle.station.specs.declared.Emptied.{Emptied}
 use Rattle.station.specs.Station.{freshStation, stationAfter, stationReset}
-use Rattle.station.specs.History.{Call, Offer, Reset, channelOf, itself, isLetIn, shutSaid, isOn, callsOn, saidOn, saidAfter, Runs, fresh, offering, resetting, stationOf}
+use Rattle.station.specs.History.{Call, Offer, Reset, channelOf, itself, isLetIn, shutSaid, isOn, callsOn, callsBy, saidOn, saidAfter, Runs, fresh, offering, resetting, stationOf}
 use Rattle.station.specs.Said.{Said, said, RunsFrom, none, offers, resets, callsOf, Ran, answersOn}
 use Rattle.station.specs.Demand3.{Exchanged, SameCalls, Reordered}
 use Rattle.station.proofs.ChannelRuns.{on-both}
@@ -133,7 +133,7 @@ saidAll [] = []
 saidAll (call ∷ l) = saidOn call l ∷ saidAll l
 
 answers-are : (all : List Said) → AllTold all → (c : ℕ) → answersOn c all ≡ saidAll (callsOn c (callsOf all))
-unfolding saidAll answersOn callsOn saidAfter
+unfolding saidAll answersOn callsBy saidAfter
 answers-are [] t c = refl
 answers-are (x ∷ before) t c = by (isOn c (x .call)) refl (answers-are before (t .1) c)
   where

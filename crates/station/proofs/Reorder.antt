@@ -25,7 +25,7 @@ use Rattle.station.specs.declared.Station.{Station}
 use Rattle.station.specs.declared.Stepped.{Stepped}
 use Rattle.station.specs.declared.Emptied.{Emptied}
 use Rattle.station.specs.Station.{ownerOf, noRow, rowAt, heldAt, isServed, shutSays, toldIn, OffersTo, Resets}
-use Rattle.station.specs.History.{Call, Offer, Reset, channelOf, itself, isLetIn, shutSaid, isOn, callsOn, saidOn, saidAfter, Part, ShownIn, Runs}
+use Rattle.station.specs.History.{Call, Offer, Reset, channelOf, itself, isLetIn, shutSaid, isOn, callsOn, callsBy, saidOn, saidAfter, Part, ShownIn, Runs}
 use Rattle.station.specs.Demand3.{SameCalls}
 use Rattle.station.proofs.Served.{open-says, shut-says, served-below, below-served}
 use Rattle.station.proofs.ChannelRuns.{in-step, on-both, on-another, calls-other, own-answer}
@@ -137,7 +137,7 @@ reset-said cs st card c r o = by (isServed card c) refl
 module _ (x y : Call) (differ : channelOf x ≡ channelOf y → ⊥) where
   -- exchanged, they leave each channel's calls as they were
   calls-exchanged : (cs : List Call) (c : ℕ) → callsOn c (x ∷ y ∷ cs) ≡ callsOn c (y ∷ x ∷ cs)
-  unfolding callsOn
+  unfolding callsBy
   calls-exchanged cs c = by (isOn c x) (isOn c y) refl refl
     where
       by : (t u : Bool) → isOn c x ≡ t → isOn c y ≡ u
@@ -150,7 +150,7 @@ module _ (x y : Call) (differ : channelOf x ≡ channelOf y → ⊥) where
 
   -- with any calls after them
   pub same-later : (later cs : List Call) (c : ℕ) → callsOn c (later ++ (x ∷ y ∷ cs)) ≡ callsOn c (later ++ (y ∷ x ∷ cs))
-  unfolding callsOn
+  unfolding callsBy
   same-later [] cs c = calls-exchanged cs c
   same-later (z ∷ later) cs c =
       ap (λ (l : List OnChannel). pick (isOn c z) (itself z ∷ l) l) (same-later later cs c)

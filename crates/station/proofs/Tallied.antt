@@ -16,7 +16,7 @@ use Rattle.tallies.proofs.Whose.{each}
 use Rattle.channel.specs.History.{saidSince, countsAs}
 use Rattle.station.specs.declared.Station.{Station}
 use Rattle.station.specs.Station.{freshStation}
-use Rattle.station.specs.History.{Call, Offer, Reset, itself, shutSaid, isOn, callsOn, saidOn, saidAfter}
+use Rattle.station.specs.History.{Call, Offer, Reset, itself, shutSaid, isOn, callsOn, callsBy, saidOn, saidAfter}
 use Rattle.station.specs.Said.{Said, RunsFrom, callsOf}
 use Rattle.station.specs.Demand2.{sinceReset, answersSince, saysNo, saysNumber, saysClean, saysRepaired, count, Tallied, Counted}
 use Rattle.station.proofs.ChannelRuns.{on-both}
@@ -76,7 +76,7 @@ all-are (a ∷ l) = omega (arith, all-are l)
 
 -- ---- the answers since the reset are those that the calls on the channel determine
 since-is : (all : List Said) → AllTold all → (c : ℕ) → answersSince c all ≡ saidSince (callsOn c (callsOf all))
-unfolding answersSince saidSince callsOn saidAfter
+unfolding answersSince saidSince callsBy saidAfter
 since-is [] t c = refl
 since-is (x ∷ before) t c = by (x .call) (x .answer) (t .0) (since-is before (t .1) c)
   where

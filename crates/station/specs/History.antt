@@ -42,13 +42,24 @@ isLetIn call = isServed (cardOf call) (channelOf call)
 abbrev pub shutSaid : Call → List ℕ
 shutSaid call = shutSays (cardOf call) (channelOf call)
 
--- the calls on one channel: those that are served on it, so of its own card. A call that is not let in is on none
-abbrev pub isOn : ℕ → Call → Bool
-isOn c call = isLetIn call && eqb (channelOf call) c
+-- ---- which calls are served, by card and channel, is a parameter of what a history shows: so it may have any number of channels
+abbrev pub Serving : Type 0
+Serving = ℕ → ℕ → Bool
 
-unfoldable pub callsOn : ℕ → List Call → List OnChannel
-callsOn c [] = []
-callsOn c (call ∷ cs) = pick (isOn c call) (itself call ∷ callsOn c cs) (callsOn c cs)
+-- the calls on one channel: those that are served on it. A call that is not served is on none
+abbrev pub isBy : Serving → ℕ → Call → Bool
+isBy serves c call = serves (cardOf call) (channelOf call) && eqb (channelOf call) c
+
+unfoldable pub callsBy : Serving → ℕ → List Call → List OnChannel
+callsBy serves c [] = []
+callsBy serves c (call ∷ cs) = pick (isBy serves c call) (itself call ∷ callsBy serves c cs) (callsBy serves c cs)
+
+-- of a station of two cards: a call on a channel is of the channel's own card
+abbrev pub isOn : ℕ → Call → Bool
+isOn = isBy isServed
+
+abbrev pub callsOn : ℕ → List Call → List OnChannel
+callsOn = callsBy isServed
 
 -- ---- the answer to a call after others, in the paper's numbers: the gate's, or what the calls before on its channel determine
 abbrev pub saidOn : OnChannel → List OnChannel → List ℕ
@@ -69,20 +80,27 @@ abbrev pub pairs : List ℕ
 pairs = 6 ∷ 8 ∷ 10 ∷ 12 ∷ 14 ∷ []
 
 -- an entry shown for a slot: at a moment, by a channel, as strings 5, p and p+1 of the one frame that this channel then held
-pub record ShownIn (cs : List Call) (slot : ℕ) (t : Three) : Type 0 where
+pub record ShownBy (serves : Serving) (cs : List Call) (slot : ℕ) (t : Three) : Type 0 where
   pub card : ℕ
   pub channel : ℕ
-  pub served : isServed card channel ≡ true
+  pub served : serves card channel ≡ true
   pub moment : List OnChannel
-  pub within : Part moment (callsOn channel cs)
+  pub within : Part moment (callsBy serves channel cs)
   pub pair : ℕ
   pub named : isOneOf pairs pair ≡ true
   pub shows : shownAt (heldAfter moment) pair ≡ At slot (entryOf t)
 
 -- the greatest entry shown: "by day, then by the even string's bits 80..9 as a number, then by the odd string's bits 80..10"
-pub record Greatest (cs : List Call) (slot : ℕ) (t : Three) : Type 0 where
-  pub shown : ShownIn cs slot t
-  pub none-above : (u : Three) → ShownIn cs slot u → isBelow t u ≡ false
+pub record GreatestBy (serves : Serving) (cs : List Call) (slot : ℕ) (t : Three) : Type 0 where
+  pub shown : ShownBy serves cs slot t
+  pub none-above : (u : Three) → ShownBy serves cs slot u → isBelow t u ≡ false
+
+-- of a station of two cards
+abbrev pub ShownIn : List Call → ℕ → Three → Type 0
+ShownIn = ShownBy isServed
+
+abbrev pub Greatest : List Call → ℕ → Three → Type 0
+Greatest = GreatestBy isServed
 
 -- ---- the station that the calls leave, one after the other: each leaves what its contract says
 pub data Runs : List Call → Station → Type 0 where
