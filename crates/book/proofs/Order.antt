@@ -16,7 +16,7 @@ use lib.ListN.{length, getD}
 use lib.Pow.{high, low}
 use Rattle.strings.specs.Pick.{pick}
 use Rattle.book.specs.declared.Entry.{Entry}
-use Rattle.book.specs.Entry.{Three, meaning, entryOf, isBelow, greater, blank}
+use Rattle.book.specs.Entry.{Three, meaning, entryOf, isBelow, greater, blank, Fits}
 use Rattle.book.proofs.Parts.{first-differs, last-equal, two-parts}
 
 -- ---- lists of numbers, by the first number that differs
@@ -118,14 +118,6 @@ below-cut s t u p q = by (isBelow u t) refl
     by false r = subst (λ (x : Three). isBelow s x ≡ true) (below-same u t r q) p
 
 -- ---- an entry and its three numbers
--- the widths of the fields
-pub record Fits (e : Entry) : Type 0 where
-  pub even : e .even < 2 ^ 64
-  pub odd : e .odd < 2 ^ 64
-  pub day : e .day < 2 ^ 16
-  pub etop : e .etop < 2 ^ 8
-  pub otop : e .otop < 2 ^ 8
-
 -- an entry is its five fields
 pub same-entry : (e f : Entry) → e .even ≡ f .even → e .odd ≡ f .odd → e .day ≡ f .day → e .etop ≡ f .etop → e .otop ≡ f .otop → e ≡ f
 same-entry e f p q r s t =

@@ -1,6 +1,6 @@
 -- An almanac entry (the paper, "Frames and the book"): "An entry is its day and these bits and no more".
 -- Assumes nothing.
-use Prim.Native.Nat.{ℕ, _+_, _*_, _/_, _%_, _^_}
+use Prim.Native.Nat.{ℕ, _+_, _*_, _/_, _%_, _^_, _<_}
 use mathlib.Core.Bool.{Bool, _&&_, _||_}
 use lib.Dec.{eqb, ltb}
 use Rattle.strings.specs.Pick.{pick}
@@ -39,6 +39,14 @@ greater a b = pick (isBelow (meaning a) (meaning b)) b a
 -- no entry: day 0, the least of all
 abbrev pub blank : Entry
 blank = record { even = 0; odd = 0; day = 0; etop = 0; otop = 0 }
+
+-- what the types say of an entry: the widths of its fields
+pub record Fits (e : Entry) : Type 0 where
+  pub even : e .even < 2 ^ 64
+  pub odd : e .odd < 2 ^ 64
+  pub day : e .day < 2 ^ 16
+  pub etop : e .etop < 2 ^ 8
+  pub otop : e .otop < 2 ^ 8
 
 -- ---- an entry's words: those of its even half and of its odd half. Bit 9 of the odd string, the sender's l, is no part of it and reads 0
 unfoldable pub evenWords : Three → EvenString
