@@ -140,6 +140,9 @@ entry-meaning e f =
     let d = high (e .otop) 64 (f .odd) in
     rw (a, b, c, d)
 
+pub blank-fits : Fits blank
+blank-fits = record { even = omega arith; odd = omega arith; day = omega arith; etop = omega arith; otop = omega arith }
+
 -- THE NUMBERS TELL ENTRIES APART
 pub meaning-tells : (e f : Entry) → Fits e → Fits f → meaning e ≡ meaning f → e ≡ f
 meaning-tells e f a b m = sym (entry-meaning e a) ∙ ap entryOf m ∙ entry-meaning f b

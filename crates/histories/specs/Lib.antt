@@ -2,3 +2,4 @@ pub mod Witness
 pub mod Panel
 pub mod Causes
 pub mod Cards
+pub mod TwoSites

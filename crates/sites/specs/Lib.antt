@@ -1,0 +1,4 @@
+pub mod Joining
+pub mod Exchanged
+pub mod TwoSites
+pub mod Lives

@@ -1,0 +1,4 @@
+pub mod Numbers
+pub mod Begun
+pub mod Entries
+pub mod Laws
