@@ -54,6 +54,7 @@ pub fn trial_input(seed: u64) -> Vec<u8> {
             station::cards::add_all,
             station::navigation::add_all,
             sky::add_all,
+            station::sites::add_all,
         ],
     )
 }

@@ -89,6 +89,12 @@ impl Station {
         Ok(())
     }
 
+    /// "Two sites exchange their books": this one's takes what the other's has. No row changes,
+    /// and no card is named.
+    pub fn join_book_of(&mut self, other: &Station) {
+        self.book.join(&other.book);
+    }
+
     /// Order of refusals: 16, 1, 15, 13.
     pub fn immediate(&self, card: u8, channel: usize) -> Result<&ImmediateRecord, Refusal> {
         let record = &self.row(card, channel)?.record;

@@ -1,10 +1,11 @@
-//! Answers to `trial` requests: one line for each, several for a block, all to one
-//! station.
+//! Answers to `trial` requests: one line for each, several for a block, all to the station in
+//! use.
 
 mod block;
 mod host;
 mod navigation;
 mod salvage;
+pub mod sites;
 mod sky;
 mod station;
 mod strings;
@@ -14,6 +15,7 @@ use crate::refusal::Refusal;
 use crate::request::{self, Piece, Request};
 use crate::station::{card, Station};
 use crate::string::BYTES;
+use sites::Sites;
 
 type Answer = Result<String, Refusal>;
 
@@ -21,12 +23,12 @@ type Answer = Result<String, Refusal>;
 /// are there.
 const NEAR_THE_LIMIT: u32 = 4_294_967_293;
 
-/// The lines for a whole input. The station is fresh at its start.
+/// The lines for a whole input. Both stations are fresh at its start.
 pub fn answer_input(input: &[u8]) -> String {
     lines_of(answers(input))
 }
 
-/// The same, but every tally of every channel begins near its limit.
+/// The same, but every tally of the station in use begins near its limit.
 pub fn answer_input_near_the_limit(input: &[u8]) -> String {
     lines_of(answers_near_the_limit(input))
 }
@@ -37,15 +39,16 @@ fn lines_of<'a>(answers: impl Iterator<Item = (Piece<'a>, String)>) -> String {
 
 /// Each piece with its answer, without the last line feed.
 pub fn answers(input: &[u8]) -> impl Iterator<Item = (Piece<'_>, String)> {
-    answers_from(Station::default(), input)
+    answers_from(Sites::default(), input)
 }
 
 pub fn answers_near_the_limit(input: &[u8]) -> impl Iterator<Item = (Piece<'_>, String)> {
-    answers_from(Station::with_tallies_at(NEAR_THE_LIMIT), input)
+    let station = Station::with_tallies_at(NEAR_THE_LIMIT);
+    answers_from(Sites::with_in_use(station), input)
 }
 
-fn answers_from(mut station: Station, input: &[u8]) -> impl Iterator<Item = (Piece<'_>, String)> {
-    request::pieces(input).map(move |piece| (piece, answer_piece(&mut station, piece)))
+fn answers_from(mut sites: Sites, input: &[u8]) -> impl Iterator<Item = (Piece<'_>, String)> {
+    request::pieces(input).map(move |piece| (piece, answer_piece(&mut sites, piece)))
 }
 
 /// The lines for one block, of any length, that card one hands to a fresh station.
@@ -54,15 +57,15 @@ pub fn answer_block(block: &[u8]) -> String {
 }
 
 /// The answer to one piece, without the last line feed.
-pub fn answer_piece(station: &mut Station, piece: Piece) -> String {
+pub fn answer_piece(sites: &mut Sites, piece: Piece) -> String {
     match piece {
-        Piece::Whole(request) => answer_request(station, request),
+        Piece::Whole(request) => answer_request(sites, request),
         Piece::Short(count) => format!("short {count}"),
     }
 }
 
-fn answer_request(station: &mut Station, request: Request) -> String {
-    match call(station, request) {
+fn answer_request(sites: &mut Sites, request: Request) -> String {
+    match call(sites, request) {
         Some(answer) => line_of(answer),
         None => format!("bad {}", request.op),
     }
@@ -73,10 +76,10 @@ fn line_of(answer: Answer) -> String {
 }
 
 /// None where there is no such op, or no such payload for it.
-fn call(station: &mut Station, request: Request) -> Option<Answer> {
+fn call(sites: &mut Sites, request: Request) -> Option<Answer> {
     match request.asked_by() {
-        Some((card, asked)) => call_of_card(station, card, asked),
-        None => call_of_no_card(station, request),
+        Some((card, asked)) => call_of_card(&mut sites.in_use, card, asked),
+        None => call_of_no_card(sites, request),
     }
 }
 
@@ -99,7 +102,7 @@ fn call_of_card(station: &mut Station, card: u8, asked: Request) -> Option<Answe
     }
 }
 
-fn call_of_no_card(station: &mut Station, request: Request) -> Option<Answer> {
+fn call_of_no_card(sites: &mut Sites, request: Request) -> Option<Answer> {
     let payload = request.payload;
     match request.op {
         request::FROM_RELATIVE => strings::from_relative(payload),
@@ -107,12 +110,14 @@ fn call_of_no_card(station: &mut Station, request: Request) -> Option<Answer> {
         request::CHECK => strings::check(payload),
         request::READ => words::read(payload),
         request::WRITE => words::write(payload),
-        request::FRESH => station::fresh(station, payload),
+        request::FRESH => station::fresh(&mut sites.in_use, payload),
         request::WORD_AS_FLOAT => host::word(payload),
         request::FOUR_STRINGS => host::record(payload),
         request::SALVAGE => salvage::salvage(payload),
         request::SKY => sky::symbols(payload),
         request::CHIP => sky::chip(payload),
+        request::OTHER_STATION => sites::exchange(sites, payload),
+        request::JOIN => sites::join(sites, payload),
         _ => None,
     }
 }

@@ -4,8 +4,8 @@
 use std::collections::{HashMap, HashSet};
 
 use second::request::{
-    append, whole_requests, Piece, Request, BLOCK, ENTRY, FRESH, HEALTH, IMMEDIATE, OFFER, RESET,
-    SUMMARY, TALLIES,
+    append, whole_requests, Piece, Request, BLOCK, ENTRY, FRESH, HEALTH, IMMEDIATE, JOIN, OFFER,
+    OTHER_STATION, RESET, SUMMARY, TALLIES,
 };
 use second::{make, trial};
 
@@ -158,7 +158,7 @@ fn calls_of_every_kind_are_in_blocks() {
 }
 
 /// Before the next call the station is asked, so that each block's station is seen. Some
-/// blocks follow one another.
+/// blocks follow one another; behind some the stations change places, or books are joined.
 #[test]
 fn blocks_are_followed_by_queries() {
     let input = make::trial_input(20260);
@@ -166,7 +166,9 @@ fn blocks_are_followed_by_queries() {
     let ops: Vec<u8> = whole_requests(&input).map(asked).collect();
     let after_blocks = ops.windows(2).filter(|pair| pair[0] == BLOCK);
     let asked: HashSet<u8> = after_blocks.map(|pair| pair[1]).collect();
-    assert!(asked.is_subset(&HashSet::from([BLOCK, IMMEDIATE, TALLIES, SUMMARY])));
+    let of_sites = [ENTRY, OTHER_STATION, JOIN];
+    let expected = [&[BLOCK, IMMEDIATE, TALLIES, SUMMARY], &of_sites[..]].concat();
+    assert!(asked.is_subset(&HashSet::from_iter(expected)));
     for op in [ENTRY, HEALTH] {
         let until_a_call = ops.split(|op| [OFFER, RESET, FRESH].contains(op));
         let mut after_a_block = until_a_call.filter(|ops| ops.contains(&BLOCK));

@@ -9,6 +9,7 @@ use second::request::{
 use second::station::card::{ONE, TWO};
 use second::station::Station;
 use second::trial::answer_piece;
+use second::trial::sites::Sites;
 
 /// Those that a card's rows answer; the others read the book.
 const OF_ROWS: [u8; 6] = [OFFER, RESET, IMMEDIATE, TALLIES, BLOCK, FIVE_OF];
@@ -34,10 +35,10 @@ fn is_of_both(history: &History) -> bool {
 }
 
 /// The answers that this card has to requests of these kinds.
-fn answers_to(card: u8, ops: &[u8], station: &mut Station, history: &[Request]) -> Vec<String> {
+fn answers_to(card: u8, ops: &[u8], sites: &mut Sites, history: &[Request]) -> Vec<String> {
     let mut answers = Vec::new();
     for request in history {
-        let answer = answer_piece(station, Piece::Whole(*request));
+        let answer = answer_piece(sites, Piece::Whole(*request));
         match request.asked_by() {
             Some((by, asked)) if by == card && ops.contains(&asked.op) => answers.push(answer),
             _ => (),
@@ -46,11 +47,12 @@ fn answers_to(card: u8, ops: &[u8], station: &mut Station, history: &[Request]) 
     answers
 }
 
-/// Those that this card makes.
+/// Those that this card makes, and those that name no card: the stations change places and books
+/// are joined as before.
 fn made_by<'a>(card: u8, history: &History<'a>) -> History<'a> {
     let own = history
         .iter()
-        .filter(|request| card_of(request) == Some(card));
+        .filter(|request| card_of(request).is_none_or(|by| by == card));
     own.copied().collect()
 }
 
@@ -65,15 +67,16 @@ fn require_same_rows(card: u8, first: &Station, second: &Station) {
     }
 }
 
-/// With all calls and with one card's alone, from this station on.
-fn require_apart(start: &Station, history: &History) {
+/// With all calls and with one card's alone, from these stations on.
+fn require_apart(start: &Sites, history: &History) {
     for card in [ONE, TWO] {
         let (mut all, mut alone) = (start.clone(), start.clone());
         let answers = answers_to(card, &OF_ROWS, &mut all, history);
         let own = made_by(card, history);
         let expected = answers_to(card, &OF_ROWS, &mut alone, &own);
         assert_eq!(answers, expected, "card {card}");
-        require_same_rows(card, &all, &alone);
+        require_same_rows(card, &all.in_use, &alone.in_use);
+        require_same_rows(card, &all.set_aside, &alone.set_aside);
     }
 }
 
@@ -84,7 +87,7 @@ fn every_history_answers_a_card_as_if_it_were_alone() {
     let of_both = histories.iter().filter(|history| is_of_both(history));
     assert!(of_both.count() > 100);
     for history in &histories {
-        require_apart(&Station::default(), history);
+        require_apart(&Sites::default(), history);
     }
 }
 
@@ -93,8 +96,9 @@ fn the_histories_near_the_limit_answer_a_card_as_if_it_were_alone() {
     let input = make::limit_input();
     let histories = histories(&input);
     assert!(histories.iter().any(is_of_both));
+    let start = Sites::with_in_use(Station::with_tallies_at(4_294_967_293));
     for history in &histories {
-        require_apart(&Station::with_tallies_at(4_294_967_293), history);
+        require_apart(&start, history);
     }
 }
 
@@ -106,7 +110,7 @@ fn what_reads_the_book_differs_in_some_history() {
     for card in [ONE, TWO] {
         for op in OF_THE_BOOK {
             let differs = |history: &History| {
-                let (mut all, mut alone) = (Station::default(), Station::default());
+                let (mut all, mut alone) = (Sites::default(), Sites::default());
                 let own = made_by(card, history);
                 answers_to(card, &[op], &mut all, history)
                     != answers_to(card, &[op], &mut alone, &own)

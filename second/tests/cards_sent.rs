@@ -15,6 +15,7 @@ use second::station::card::{ONE, TWO};
 use second::station::reception::receive;
 use second::station::Station;
 use second::trial::answer_piece;
+use second::trial::sites::Sites;
 
 const CARDS: [u8; 5] = [0, 1, 2, 3, 255];
 const CHANNELS: [u8; 5] = [23, 24, 47, 48, 255];
@@ -34,7 +35,7 @@ struct Answered<'a> {
 }
 
 fn answered(input: &[u8]) -> Vec<Answered<'_>> {
-    let mut station = Station::default();
+    let mut sites = Sites::default();
     let mut found = Vec::new();
     for piece in pieces(input) {
         let Piece::Whole(request) = piece else {
@@ -43,8 +44,8 @@ fn answered(input: &[u8]) -> Vec<Answered<'_>> {
         let asked_by = request.asked_by();
         let answer_else = asked_by
             .filter(|(card, asked)| is_shut_out(*card, *asked))
-            .map(|(_, asked)| answer_else(&station, asked.payload));
-        let answer = answer_piece(&mut station, piece);
+            .map(|(_, asked)| answer_else(&sites.in_use, asked.payload));
+        let answer = answer_piece(&mut sites, piece);
         let Some((card, asked)) = asked_by else {
             continue;
         };

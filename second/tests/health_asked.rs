@@ -4,12 +4,13 @@
 use std::collections::{HashMap, HashSet};
 
 use second::make;
-use second::request::{pieces, Piece, Request, BLOCK, FRESH, HEALTH, OFFER, RESET};
+use second::request::{pieces, Piece, Request, BLOCK, FRESH, HEALTH, OFFER, OTHER_STATION, RESET};
 use second::station::card::ONE;
 use second::station::reception::receive;
 use second::station::Station;
 use second::string::NavString;
 use second::trial::answer_piece;
+use second::trial::sites::Sites;
 use second::words::kinds::{L_OF_STRING_3, SATELLITE};
 use second::words::word::Word;
 
@@ -67,10 +68,10 @@ fn asked(station: &Station, heard: &Heard, card: u8, channel: u8, line: String) 
 }
 
 fn all_asked() -> HashSet<Asked> {
-    let (mut station, mut heard) = (Station::default(), Heard::new());
+    let (mut sites, mut heard) = (Sites::default(), Heard::new());
     let mut found = HashSet::new();
     for piece in pieces(&make::trial_input(20260)) {
-        let line = answer_piece(&mut station, piece);
+        let line = answer_piece(&mut sites, piece);
         let Piece::Whole(request) = piece else {
             continue;
         };
@@ -81,9 +82,9 @@ fn all_asked() -> HashSet<Asked> {
                 heard.insert((*channel, string.m()), string);
             }
             (RESET, [reset]) if line == "ok" => heard.retain(|(channel, _), _| channel != reset),
-            (FRESH, []) | (BLOCK, _) => heard.clear(),
+            (FRESH | OTHER_STATION, []) | (BLOCK, _) => heard.clear(),
             (HEALTH, [channel]) if line.starts_with("ok ") => {
-                found.insert(asked(&station, &heard, card, *channel, line));
+                found.insert(asked(&sites.in_use, &heard, card, *channel, line));
             }
             _ => (),
         }

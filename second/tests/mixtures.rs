@@ -7,8 +7,8 @@ use second::hamming::{check, encode};
 use second::refusal::Refusal;
 use second::relative::{from_relative, to_relative};
 use second::request::{pieces, Piece, Request, CHECK, OFFER, READ};
-use second::station::Station;
 use second::string::{NavString, BYTES, PADDING};
+use second::trial::sites::Sites;
 use second::{make, trial};
 
 /// 0 where the call is granted.
@@ -72,11 +72,11 @@ fn number_in(line: &str) -> u8 {
 }
 
 fn mixtures(input: &[u8]) -> HashSet<Mixture> {
-    let mut station = Station::default();
+    let mut sites = Sites::default();
     let mut found = HashSet::new();
     for piece in pieces(input) {
-        let before = station.clone();
-        let answer = trial::answer_piece(&mut station, piece);
+        let before = sites.clone();
+        let answer = trial::answer_piece(&mut sites, piece);
         let Piece::Whole(request) = piece else {
             continue;
         };

@@ -7,6 +7,7 @@ use second::make;
 use second::request::{pieces, Piece, CARRIER, FIVE_OF, IMMEDIATE, NAVIGATION};
 use second::station::Station;
 use second::trial::answer_piece;
+use second::trial::sites::Sites;
 
 /// Where the words stand in the record that request 8 prints.
 const TK: usize = 1;
@@ -45,15 +46,20 @@ struct Asked {
 
 /// All requests 18, 24 and 25.
 fn asked() -> Vec<Asked> {
-    let mut station = Station::default();
+    let mut sites = Sites::default();
     let mut found = Vec::new();
     for piece in pieces(&make::trial_input(20260)) {
-        let line = answer_piece(&mut station, piece);
+        let line = answer_piece(&mut sites, piece);
         let Piece::Whole(request) = piece else {
             continue;
         };
         if [NAVIGATION, FIVE_OF, CARRIER].contains(&request.op) {
-            found.push(with_station(&station, request.op, request.payload, line));
+            found.push(with_station(
+                &sites.in_use,
+                request.op,
+                request.payload,
+                line,
+            ));
         }
     }
     found
@@ -300,10 +306,10 @@ fn texts_have_ties_of_both_kinds() {
 
 #[test]
 fn records_are_asked_for_with_their_starts() {
-    let mut station = Station::default();
+    let mut sites = Sites::default();
     let mut starts = HashSet::new();
     for piece in pieces(&make::trial_input(20260)) {
-        let line = answer_piece(&mut station, piece);
+        let line = answer_piece(&mut sites, piece);
         let Piece::Whole(request) = piece else {
             continue;
         };

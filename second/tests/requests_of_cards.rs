@@ -3,30 +3,20 @@
 use second::known::B;
 use second::request::card::{FOR_ANY_CARD, OF_CARDS};
 use second::request::{
-    append, BLOCK, ENTRY, ENTRY_WORDS, FRESH, HEALTH, IMMEDIATE, OFFER, RESET, SUMMARY, TALLIES,
+    BLOCK, ENTRY, ENTRY_WORDS, FRESH, HEALTH, IMMEDIATE, OFFER, RESET, SUMMARY, TALLIES,
 };
 use second::trial;
+
+#[path = "common/requests.rs"]
+mod requests;
+
+use requests::{answers, written, Asked};
 
 /// Those of any card, as they are numbered.
 const NUMBERS: [u8; 9] = [38, 39, 40, 41, 42, 43, 45, 46, 55];
 
-type Asked = (u8, Vec<u8>);
-
 fn by(card: u8, op: u8, payload: &[u8]) -> Asked {
     (op + FOR_ANY_CARD, [&[card], payload].concat())
-}
-
-fn written(requests: &[Asked]) -> Vec<u8> {
-    let mut input = Vec::new();
-    for (op, payload) in requests {
-        append(&mut input, *op, payload);
-    }
-    input
-}
-
-fn answers(requests: &[Asked]) -> Vec<String> {
-    let lines = trial::answer_input(&written(requests));
-    lines.lines().map(String::from).collect()
 }
 
 fn answer(request: Asked) -> String {

@@ -5,8 +5,9 @@ use second::known::{a, received_frame, A, B, B_DAMAGED, B_INVERTED, FLIPS_THAT_D
 use second::relative::to_relative;
 use second::request::{
     append, join_strings, values_to_bytes, whole_requests, Piece, BLOCK, CARRIER, CHECK, CHIP,
-    ENTRY, ENTRY_WORDS, FIVE_OF, FOUR_STRINGS, FRESH, FROM_RELATIVE, HEALTH, IMMEDIATE, NAVIGATION,
-    OFFER, READ, RESET, SALVAGE, SKY, SUMMARY, TALLIES, TO_RELATIVE, WORD_AS_FLOAT, WRITE,
+    ENTRY, ENTRY_WORDS, FIVE_OF, FOUR_STRINGS, FRESH, FROM_RELATIVE, HEALTH, IMMEDIATE, JOIN,
+    NAVIGATION, OFFER, OTHER_STATION, READ, RESET, SALVAGE, SKY, SUMMARY, TALLIES, TO_RELATIVE,
+    WORD_AS_FLOAT, WRITE,
 };
 use second::string::NavString;
 use second::{make, trial};
@@ -618,7 +619,7 @@ fn payloads_of_the_station_have_their_lengths() {
             assert_eq!(answer_payload(op, payload), format!("bad {op}\n"));
         }
     }
-    for op in [FRESH, SUMMARY] {
+    for op in [FRESH, SUMMARY, OTHER_STATION, JOIN] {
         for payload in [&[0][..], &[1, 0], &[0; 256]] {
             assert_eq!(answer_payload(op, payload), format!("bad {op}\n"));
         }
@@ -659,7 +660,7 @@ fn the_made_input_draws_every_kind_of_line() {
         "no 41 ", "no 42 ", "no 43 ", "no 44 ", "no 45 ", "end", "bad 0", "bad 4", "bad 5",
         "bad 6", "bad 12", "bad 14", "bad 15", "bad 16", "bad 17", "bad 18", "bad 23", "bad 24",
         "bad 25", "no 10 26", "no 10 36", "no 17", "no 10 74", "no 18", "bad 19", "bad 20",
-        "short 10",
+        "bad 21", "bad 22", "bad 53", "bad 54", "short 10",
     ] {
         assert!(lines.lines().any(|line| line.starts_with(kind)), "{kind}");
     }
@@ -706,6 +707,8 @@ fn the_input_for_words_asks_no_station() {
         NAVIGATION,
         SKY,
         CHIP,
+        OTHER_STATION,
+        JOIN,
         ENTRY_WORDS,
         FIVE_OF,
         CARRIER,

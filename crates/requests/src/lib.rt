@@ -11,6 +11,7 @@ mod line;
 mod navigation_calls;
 mod numbers;
 mod salvage_call;
+mod site_calls;
 mod sky_calls;
 mod sky_stream;
 mod sky_words;
@@ -37,6 +38,8 @@ use line::put_text;
 use navigation_calls::navigation_call;
 use numbers::pair;
 use salvage_call::salvage_call;
+use site_calls::exchange_call;
+use site_calls::join_call;
 use sky_calls::chip_call;
 use sky_calls::sky_call;
 pub use sky_stream::write_sky;
@@ -53,10 +56,11 @@ use word_calls::write_call;
 ghost use Prim.Native.Nat.{_≤_, _<_};
 ghost use lib.ListN.{length};
 
-// The station after a turn, and whether another request may follow.
-struct Turned {
-    station: Station,
-    more: bool,
+// The station after a turn, the one that is set aside, and whether another request may follow.
+pub(crate) struct Turned {
+    pub(crate) station: Station,
+    pub(crate) aside: Station,
+    pub(crate) more: bool,
 }
 
 // The line for one whole request of a card, and the station after it.
@@ -117,26 +121,41 @@ fn print_short(count: usize) {
 }
 
 // After the last turn.
-fn ended(st: Station) -> Turned {
+fn ended(st: Station, aside: Station) -> Turned {
     Turned {
         station: st,
+        aside,
         more: false,
     }
 }
 
 // Reads the payload, of which the size is known, and prints what the request is answered.
-fn finish(op: u8, size: usize, space: &mut [u8], st: Station) -> Turned
+fn finish(op: u8, size: usize, space: &mut [u8], st: Station, aside: Station) -> Turned
     requires { ⌜ (size < 65536) × (size ≤ length (now space)) ⌝ }
 {
     let payload = &mut space[0..size];
     let got = io::read_full(STDIN_FILENO, payload);
     if got < size {
         print_short(3 + got);
-        return ended(st);
+        return ended(st, aside);
     }
-    Turned {
-        station: print_answer(op, payload, st),
-        more: true,
+    turned_by(op, payload, st, aside)
+}
+
+// The two stations after one whole request, of which the lines are printed.
+fn turned_by(op: u8, payload: &[u8], st: Station, aside: Station) -> Turned {
+    match op {
+        21 => exchange_call(payload, st, aside),
+        22 => Turned {
+            station: join_call(payload, st, aside),
+            aside,
+            more: true,
+        },
+        _ => Turned {
+            station: print_answer(op, payload, st),
+            aside,
+            more: true,
+        },
     }
 }
 
@@ -167,37 +186,40 @@ fn line_or_bad(text: &mut Text, n: usize, op: u8) -> usize
 }
 
 // Reads one request and prints its line.
-fn turn(space: &mut [u8; 65536], st: Station) -> Turned {
+fn turn(space: &mut [u8; 65536], st: Station, aside: Station) -> Turned {
     let mut head = [0u8; 3];
     let got = io::read_full(STDIN_FILENO, &mut head);
     if got == 0 {
-        return ended(st);
+        return ended(st, aside);
     }
     if got < 3 {
         print_short(got);
-        return ended(st);
+        return ended(st, aside);
     }
-    finish(head[0], pair(head[1], head[2]), space, st)
+    finish(head[0], pair(head[1], head[2]), space, st, aside)
 }
 
-// Answers every request, all by one station that is fresh at the start.
+// Answers every request, by a station that is fresh at the start, and one set aside that is fresh too.
 pub fn answer_all() {
     answer_from(station::fresh());
 }
 
-// Answers every request, all by one station, which begins as it is handed over. It returns nothing and
-// only reads and writes, of which no contract can speak: it promises nothing but to end. Nothing says
-// that the input ends, so the turns are counted down from a number that no run uses up.
+// Answers every request, by a station that begins as it is handed over, and one set aside that is fresh.
+// It returns nothing and only reads and writes, of which no contract can speak: it promises nothing but
+// to end. Nothing says that the input ends, so the turns are counted down from a number that no run uses
+// up.
 pub fn answer_from(st: Station) {
     let mut space = io::large_buffer();
     let mut turned = Turned {
         station: st,
+        aside: station::fresh(),
         more: true,
     };
     let mut turns = u64::MAX;
     while turns > 0 && turned.more {
         let st = turned.station;
-        let next = turn(&mut space, st);
+        let aside = turned.aside;
+        let next = turn(&mut space, st, aside);
         turned = next;
         turns -= 1;
     }

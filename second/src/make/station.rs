@@ -12,6 +12,7 @@ pub(super) mod navigation;
 pub(super) mod polarity;
 pub(super) mod record;
 mod refusals;
+pub(super) mod sites;
 mod sky;
 pub(super) mod summary;
 pub(super) mod tallies;

@@ -81,6 +81,14 @@ impl Book {
         *kept = (*kept).max(Some(entry));
     }
 
+    /// "Joining takes, slot by slot, the greater entry by the existing comparison"; an empty
+    /// slot is the least.
+    pub fn join(&mut self, other: &Book) {
+        for (kept, others) in self.slots.iter_mut().zip(other.slots) {
+            *kept = (*kept).max(others);
+        }
+    }
+
     /// Order of refusals: 14, 13.
     pub fn entry(&self, slot: usize) -> Result<Entry, Refusal> {
         let index = slot.checked_sub(1).ok_or(Refusal::Slot)?;

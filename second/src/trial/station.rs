@@ -110,7 +110,7 @@ pub fn summary(station: &Station, card: u8, payload: &[u8]) -> Option<Answer> {
     }))
 }
 
-fn no_byte(payload: &[u8]) -> Option<()> {
+pub fn no_byte(payload: &[u8]) -> Option<()> {
     payload.is_empty().then_some(())
 }
 

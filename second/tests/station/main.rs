@@ -1,5 +1,5 @@
-//! The station: frames, record, book, its summary, health, tallies, two cards, blocks, and the
-//! listing, navigation records and their file over it.
+//! The station: frames, record, book, its summary, health, tallies, two cards, blocks, books
+//! joined, and the listing, navigation records and their file over it.
 
 mod block;
 mod book;
@@ -9,6 +9,9 @@ mod exchange;
 mod frames;
 mod health;
 mod isolation;
+mod join;
+mod join_and_calls;
+mod join_and_cards;
 mod listing;
 mod navigation;
 mod navigation_file;
@@ -16,6 +19,7 @@ mod polarity;
 mod record;
 mod refusals;
 mod relock;
+mod sites;
 mod sky;
 mod strings;
 mod summary;

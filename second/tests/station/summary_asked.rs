@@ -5,16 +5,15 @@ use std::cmp::Ordering::{self, Equal, Less};
 use std::mem;
 
 use second::make;
-use second::request::{pieces, Piece, Request, BLOCK, FRESH, OFFER, RESET, SUMMARY};
+use second::request::{pieces, Piece, Request, BLOCK, FRESH, OFFER, OTHER_STATION, RESET, SUMMARY};
 use second::station::book::{Entry, Summary};
 use second::station::card::ONE;
 use second::station::Station;
 use second::trial::answer_piece;
+use second::trial::sites::Sites;
 
+use crate::sites::{book_of, Book};
 use crate::summary::counted;
-
-/// The entries of slots 1 to 24.
-type Book = Vec<Option<Entry>>;
 
 /// What came between a question and the one before it.
 struct Asked {
@@ -25,10 +24,6 @@ struct Asked {
     before: Book,
     after: Book,
     line: String,
-}
-
-fn book_of(station: &Station) -> Book {
-    (1..=24).map(|slot| station.entry(ONE, slot).ok()).collect()
 }
 
 fn days_of(book: &Book) -> Vec<Option<i64>> {
@@ -68,7 +63,7 @@ impl Alone {
             (RESET, [channel]) if line == "ok" => {
                 self.0[usize::from(*channel)] = Station::default();
             }
-            (FRESH, []) | (BLOCK, _) => *self = Alone::new(),
+            (FRESH | OTHER_STATION, []) | (BLOCK, _) => *self = Alone::new(),
             _ => (),
         }
         Vec::new()
@@ -100,14 +95,15 @@ fn is_new(line: &str) -> bool {
     line.starts_with("taken ") && line != HELD_ALREADY
 }
 
-/// All but the first, which has everything else of the input before it.
+/// All but the first, which has everything else of the input before it, and those that another
+/// station was asked before.
 fn all_asked() -> Vec<Asked> {
-    let (mut station, mut alone) = (Station::default(), Alone::new());
+    let (mut sites, mut alone) = (Sites::default(), Alone::new());
     let (mut calls, mut shown) = (Vec::new(), Vec::new());
-    let mut before = book_of(&station);
+    let mut before = book_of(&sites.in_use);
     let mut found = Vec::new();
     for piece in pieces(&make::trial_input(20260)) {
-        let line = in_short(&answer_piece(&mut station, piece));
+        let line = in_short(&answer_piece(&mut sites, piece));
         let Piece::Whole(request) = piece else {
             continue;
         };
@@ -115,7 +111,7 @@ fn all_asked() -> Vec<Asked> {
         shown.extend(alone.hear(card, request, &line));
         match (request.op, request.payload) {
             (SUMMARY, []) if line.starts_with("ok ") => {
-                let after = book_of(&station);
+                let after = book_of(&sites.in_use);
                 found.push(Asked {
                     calls: mem::take(&mut calls),
                     shown: mem::take(&mut shown),
@@ -127,7 +123,9 @@ fn all_asked() -> Vec<Asked> {
             (op, _) => calls.push((op, line)),
         }
     }
-    found.split_off(1)
+    let mut found = found.split_off(1);
+    found.retain(|asked| asked.calls.iter().all(|(op, _)| *op != OTHER_STATION));
+    found
 }
 
 impl Asked {

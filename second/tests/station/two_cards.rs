@@ -20,7 +20,7 @@ impl CardCall {
 }
 
 /// The same place on the other card; channels above 47 stay.
-fn on_the_other_card(call: &Call) -> Call {
+pub fn on_the_other_card(call: &Call) -> Call {
     let mut call = call.clone();
     let (Call::Offer { channel, .. } | Call::Reset { channel }) = &mut call;
     if *channel < 48 {

@@ -12,6 +12,9 @@ abbrev μ-loop : tie.MeasureT-loop
 large-buffer-requires : tie.Need-large-buffer-requires Inv-loop μ-loop
 large-buffer-requires c κs = search needs
 
+fresh-requires : tie.Need-fresh-requires Inv-loop μ-loop
+fresh-requires c κs = search needs
+
 loop-holds : tie.Need-loop-holds Inv-loop μ-loop
 loop-holds c = search needs
 
@@ -40,6 +43,7 @@ answer-from-spec =
     Inv-loop
     μ-loop
     large-buffer-requires
+    fresh-requires
     loop-holds
     turn-requires
     sub-turns

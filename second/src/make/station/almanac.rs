@@ -29,6 +29,10 @@ pub(super) fn dated([string_5, even, odd]: Three, day: Day) -> Three {
     [on_day(&string_5, day), even, odd]
 }
 
+pub(super) fn with_c([string_5, even, odd]: Three, c: u128) -> Three {
+    [string_5, with_code(&even, &ALMANAC_C, c), odd]
+}
+
 impl Input {
     /// Five frames on one channel, then the same on another: all 24 slots.
     fn superframe(&mut self) {

@@ -18,7 +18,7 @@ use crate::station::card::{CHANNELS_OF_A_CARD, ONE, TWO};
 use crate::string::NavString;
 
 /// Who asks.
-#[derive(Clone, Copy)]
+#[derive(Clone, Copy, PartialEq, Eq)]
 pub(in super::super) enum Asker {
     /// Card one, by the requests that speak for it.
     Unnamed,
@@ -85,7 +85,7 @@ impl Input {
         }
     }
 
-    fn block_by(&mut self, asker: Asker, calls: &[Call]) {
+    pub(super) fn block_by(&mut self, asker: Asker, calls: &[Call]) {
         self.ask(asker, BLOCK, &block_of(calls));
     }
 
@@ -106,7 +106,7 @@ impl Input {
         }
     }
 
-    fn ask_book(&mut self, asker: Asker, slots: impl IntoIterator<Item = usize>) {
+    pub(super) fn ask_book(&mut self, asker: Asker, slots: impl IntoIterator<Item = usize>) {
         for slot in slots {
             self.ask(asker, ENTRY, &[slot as u8]);
             self.ask(asker, ENTRY_WORDS, &[slot as u8]);

@@ -20,7 +20,7 @@ use crate::words::kinds::{DAY, TB, TK};
 use crate::words::word::time_of_day;
 
 const FRAME: u32 = STRINGS_IN_A_FRAME as u32;
-const RIGHT_ROOM: u16 = RECORD_BYTES as u16;
+pub(super) const RIGHT_ROOM: u16 = RECORD_BYTES as u16;
 
 /// The channel that the almanac comes from, of card one.
 const ALMANAC_CHANNEL: u8 = 10;
@@ -108,7 +108,7 @@ impl Input {
         self.strings_by(Asker::Card(place.card), place.channel, place.start, strings);
     }
 
-    fn navigation_in(&mut self, card: u8, channel: u8, room: u16) {
+    pub(super) fn navigation_in(&mut self, card: u8, channel: u8, room: u16) {
         let payload = [&[card, channel][..], &room.to_be_bytes()].concat();
         self.request(NAVIGATION, &payload);
     }
@@ -129,7 +129,7 @@ impl Input {
         }
     }
 
-    fn ask_carriers(&mut self, card: u8, slots: impl IntoIterator<Item = u8>) {
+    pub(super) fn ask_carriers(&mut self, card: u8, slots: impl IntoIterator<Item = u8>) {
         for slot in slots {
             self.request(CARRIER, &[card, slot]);
         }

@@ -5,7 +5,7 @@ use std::iter::successors;
 
 use super::super::satellite::{day_after, Day};
 use super::super::Input;
-use super::almanac::{dated, Three};
+use super::almanac::{dated, with_c, Three};
 use super::blocks::{block_of, Call, CALLS_A_SECOND};
 use super::refusals::WRONG_CHANNELS;
 use super::{NEXT_START, SOME_START};
@@ -15,7 +15,7 @@ use crate::listing::Record;
 use crate::request::SUMMARY;
 use crate::station::book::SLOTS;
 use crate::station::card::CHANNELS_OF_A_CARD;
-use crate::words::kinds::{ALMANAC_C, ALMANAC_DAY, ALMANAC_SLOT, H};
+use crate::words::kinds::{ALMANAC_DAY, ALMANAC_SLOT, H};
 
 pub(in super::super) fn add_all(input: &mut Input) {
     input.stories();
@@ -176,8 +176,7 @@ impl Input {
         let threes: Vec<Three> = (1..=SLOTS).map(|slot| self.three(slot)).collect();
         let mut calls = Vec::new();
         for (channel, &(slot, day, c)) in (0..CHANNELS_OF_A_STORY).cycle().zip(story) {
-            let [string_5, even, odd] = dated(threes[slot - 1], day);
-            let three = [string_5, with_code(&even, &ALMANAC_C, c), odd];
+            let three = with_c(dated(threes[slot - 1], day), c);
             calls.extend(self.showing(channel, &three));
         }
         self.summary_after(&calls);

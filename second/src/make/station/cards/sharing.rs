@@ -3,13 +3,13 @@
 
 use super::super::super::satellite::Day;
 use super::super::super::Input;
-use super::super::almanac::{dated, Three};
+use super::super::almanac::{dated, with_c, Three};
 use super::super::SOME_START;
 use super::{Asker, CARD_ONE, CARD_TWO};
 use crate::alter::with_code;
 use crate::request::RESET;
 use crate::station::book::SLOTS;
-use crate::words::kinds::{ALMANAC_C, B};
+use crate::words::kinds::B;
 
 /// Days that follow one another, over the end of a period.
 const DAYS: [Day; 4] = [(6, 1460), (6, 1461), (7, 1), (7, 2)];
@@ -113,8 +113,4 @@ impl Input {
             }
         }
     }
-}
-
-fn with_c([string_5, even, odd]: Three, c: u128) -> Three {
-    [string_5, with_code(&even, &ALMANAC_C, c), odd]
 }
