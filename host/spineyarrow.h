@@ -7,6 +7,7 @@
 #ifndef SPINEYARROW_H
 #define SPINEYARROW_H
 
+#include <stddef.h>
 #include <stdint.h>
 
 #ifdef __cplusplus
@@ -42,6 +43,154 @@ enum spineyarrow_word_number {
     SPINEYARROW_B2 = 22, /* 2^-16 s/day; string 14 of frame 5 */
     SPINEYARROW_WORDS = 22
 };
+
+/* the numbers that say no, in the lowest byte of an answer */
+enum spineyarrow_no {
+    SPINEYARROW_TAKEN = 0,
+    SPINEYARROW_NO_CHANNEL = 1,
+    SPINEYARROW_NO_SHAPE = 2,
+    SPINEYARROW_NO_IDLE = 4,
+    SPINEYARROW_NO_NUMBER = 5,
+    SPINEYARROW_NO_EARLY = 6,
+    SPINEYARROW_NO_STALE = 7,
+    SPINEYARROW_NO_OFF_BEAT = 8,
+    SPINEYARROW_NO_CONFLICT = 9,
+    SPINEYARROW_NO_RANGE = 10,
+    SPINEYARROW_NO_PLACE = 11,
+    SPINEYARROW_NO_ROOM = 12,
+    SPINEYARROW_NO_NOTHING = 13,
+    SPINEYARROW_NO_SLOT = 14,
+    SPINEYARROW_NO_OWNER = 15,
+    SPINEYARROW_NO_CARD = 16,
+    SPINEYARROW_NO_DAMAGED_UNPLACED = 31,
+    SPINEYARROW_NO_DAMAGED_EVEN = 32,
+    SPINEYARROW_NO_DAMAGED_OUTSIDE = 33,
+    SPINEYARROW_NO_TAG = 41,
+    SPINEYARROW_NO_LENGTH = 42,
+    SPINEYARROW_NO_CUT = 43
+};
+
+/* A lent station, as it lies in the host's memory, to be read in place between two calls by a panel or a debugger, and written by the calls alone.
+   Numbers stand in the machine's own order of bytes. All zero is a fresh station. */
+
+/* The strings 1 to 4 that the latest immediate record was read from, and the start of their frame.
+   Where their words are not in range, as in a reset row's zeros, there is no record. */
+struct spineyarrow_immediate {
+    uint8_t strings[44];
+    uint32_t start;
+};
+typedef char spineyarrow_immediate_strings_lies[offsetof(struct spineyarrow_immediate, strings) == 0 ? 1 : -1];
+typedef char spineyarrow_immediate_start_lies[offsetof(struct spineyarrow_immediate, start) == 44 ? 1 : -1];
+typedef char spineyarrow_immediate_size[sizeof(struct spineyarrow_immediate) == 48 ? 1 : -1];
+
+/* One tally for each refusal that an offer on a valid channel can get, in the order of the tests: 2; 31,
+   32 and 33, which are DAMAGED; 4 to 9. */
+struct spineyarrow_causes {
+    uint32_t shape;
+    uint32_t unplaced;
+    uint32_t even;
+    uint32_t outside;
+    uint32_t idle;
+    uint32_t number;
+    uint32_t early;
+    uint32_t stale;
+    uint32_t offbeat;
+    uint32_t conflict;
+};
+typedef char spineyarrow_causes_shape_lies[offsetof(struct spineyarrow_causes, shape) == 0 ? 1 : -1];
+typedef char spineyarrow_causes_unplaced_lies[offsetof(struct spineyarrow_causes, unplaced) == 4 ? 1 : -1];
+typedef char spineyarrow_causes_even_lies[offsetof(struct spineyarrow_causes, even) == 8 ? 1 : -1];
+typedef char spineyarrow_causes_outside_lies[offsetof(struct spineyarrow_causes, outside) == 12 ? 1 : -1];
+typedef char spineyarrow_causes_idle_lies[offsetof(struct spineyarrow_causes, idle) == 16 ? 1 : -1];
+typedef char spineyarrow_causes_number_lies[offsetof(struct spineyarrow_causes, number) == 20 ? 1 : -1];
+typedef char spineyarrow_causes_early_lies[offsetof(struct spineyarrow_causes, early) == 24 ? 1 : -1];
+typedef char spineyarrow_causes_stale_lies[offsetof(struct spineyarrow_causes, stale) == 28 ? 1 : -1];
+typedef char spineyarrow_causes_offbeat_lies[offsetof(struct spineyarrow_causes, offbeat) == 32 ? 1 : -1];
+typedef char spineyarrow_causes_conflict_lies[offsetof(struct spineyarrow_causes, conflict) == 36 ? 1 : -1];
+typedef char spineyarrow_causes_size[sizeof(struct spineyarrow_causes) == 40 ? 1 : -1];
+
+/* The counts since the channel's reset: strings offered, taken clean, taken repaired, refused; and the
+   refused ones by cause. A reset leaves all fourteen at 0. They are the last of a row, each a word of four
+   bytes, where a host in C reads them. */
+struct spineyarrow_tallies {
+    uint32_t offered;
+    uint32_t clean;
+    uint32_t repaired;
+    uint32_t refused;
+    struct spineyarrow_causes causes;
+};
+typedef char spineyarrow_tallies_offered_lies[offsetof(struct spineyarrow_tallies, offered) == 0 ? 1 : -1];
+typedef char spineyarrow_tallies_clean_lies[offsetof(struct spineyarrow_tallies, clean) == 4 ? 1 : -1];
+typedef char spineyarrow_tallies_repaired_lies[offsetof(struct spineyarrow_tallies, repaired) == 8 ? 1 : -1];
+typedef char spineyarrow_tallies_refused_lies[offsetof(struct spineyarrow_tallies, refused) == 12 ? 1 : -1];
+typedef char spineyarrow_tallies_causes_lies[offsetof(struct spineyarrow_tallies, causes) == 16 ? 1 : -1];
+typedef char spineyarrow_tallies_size[sizeof(struct spineyarrow_tallies) == 56 ? 1 : -1];
+
+/* The latest immediate record; fifteen strings of one frame, eleven bytes each; the frame's start; a
+   mask of the strings that are present, string m at bit m-1; and the tallies. All zero is a reset
+   row. The record comes first so that both it and the strings begin at a whole word, which the card
+   copies four times as fast. */
+struct spineyarrow_row {
+    struct spineyarrow_immediate immediate;
+    uint8_t strings[165];
+    uint32_t start;
+    uint16_t present;
+    struct spineyarrow_tallies tallies;
+};
+typedef char spineyarrow_row_immediate_lies[offsetof(struct spineyarrow_row, immediate) == 0 ? 1 : -1];
+typedef char spineyarrow_row_strings_lies[offsetof(struct spineyarrow_row, strings) == 48 ? 1 : -1];
+typedef char spineyarrow_row_start_lies[offsetof(struct spineyarrow_row, start) == 216 ? 1 : -1];
+typedef char spineyarrow_row_present_lies[offsetof(struct spineyarrow_row, present) == 220 ? 1 : -1];
+typedef char spineyarrow_row_tallies_lies[offsetof(struct spineyarrow_row, tallies) == 224 ? 1 : -1];
+typedef char spineyarrow_row_size[sizeof(struct spineyarrow_row) == 280 ? 1 : -1];
+
+/* An entry: its day, the even string's bits 80..9 (etop the eight highest, even the rest) and the
+   odd string's bits 80..10 (otop the seven highest, odd the rest). Day 0 is no entry. */
+struct spineyarrow_entry {
+    uint64_t even;
+    uint64_t odd;
+    uint16_t day;
+    uint8_t etop;
+    uint8_t otop;
+};
+typedef char spineyarrow_entry_even_lies[offsetof(struct spineyarrow_entry, even) == 0 ? 1 : -1];
+typedef char spineyarrow_entry_odd_lies[offsetof(struct spineyarrow_entry, odd) == 8 ? 1 : -1];
+typedef char spineyarrow_entry_day_lies[offsetof(struct spineyarrow_entry, day) == 16 ? 1 : -1];
+typedef char spineyarrow_entry_etop_lies[offsetof(struct spineyarrow_entry, etop) == 18 ? 1 : -1];
+typedef char spineyarrow_entry_otop_lies[offsetof(struct spineyarrow_entry, otop) == 19 ? 1 : -1];
+typedef char spineyarrow_entry_size[sizeof(struct spineyarrow_entry) == 24 ? 1 : -1];
+
+/*  */
+struct spineyarrow_book {
+    struct spineyarrow_entry entries[24];
+};
+typedef char spineyarrow_book_entries_lies[offsetof(struct spineyarrow_book, entries) == 0 ? 1 : -1];
+typedef char spineyarrow_book_size[sizeof(struct spineyarrow_book) == 576 ? 1 : -1];
+
+/* How many lines hold an entry, the oldest of their days and the newest: 0, 0, 0 where none does. */
+struct spineyarrow_summary {
+    uint64_t count;
+    uint16_t oldest;
+    uint16_t newest;
+};
+typedef char spineyarrow_summary_count_lies[offsetof(struct spineyarrow_summary, count) == 0 ? 1 : -1];
+typedef char spineyarrow_summary_oldest_lies[offsetof(struct spineyarrow_summary, oldest) == 8 ? 1 : -1];
+typedef char spineyarrow_summary_newest_lies[offsetof(struct spineyarrow_summary, newest) == 10 ? 1 : -1];
+typedef char spineyarrow_summary_size[sizeof(struct spineyarrow_summary) == 16 ? 1 : -1];
+
+/* All that the cards know: a row for each channel, the almanac book that they share, and the book's
+   summary. */
+struct spineyarrow_station {
+    struct spineyarrow_row rows[48];
+    struct spineyarrow_book book;
+    struct spineyarrow_summary summary;
+};
+typedef char spineyarrow_station_rows_lies[offsetof(struct spineyarrow_station, rows) == 0 ? 1 : -1];
+typedef char spineyarrow_station_book_lies[offsetof(struct spineyarrow_station, book) == 13440 ? 1 : -1];
+typedef char spineyarrow_station_summary_lies[offsetof(struct spineyarrow_station, summary) == 14016 ? 1 : -1];
+typedef char spineyarrow_station_size[sizeof(struct spineyarrow_station) == 14032 ? 1 : -1];
+
+enum { SPINEYARROW_STATION_BYTES = 14032, SPINEYARROW_STATION_ALIGNMENT = 8 };
 
 /* ==== libhost.a (rt staticlib host): strings checked, signed words as floats, the immediate record of four strings */
 

@@ -1,5 +1,5 @@
 # host/spineyarrow.h: the calls for C, from the sources of the crates that export them, and the signed words, from the table of units.
-# Comes in: crates/scaled/src/table.rt, and then for each archive a line `archive NAME ABOUT` before its sources.
+# Comes in: crates/scaled/src/table.rt, and then for each archive a line `archive NAME ABOUT` before its sources. STRUCTS has what stands between them.
 
 BEGIN {
     where["One"] = "string 1"; where["Two"] = "string 2"; where["Three"] = "string 3"; where["Four"] = "string 4"; where["Five"] = "string 5"
@@ -51,6 +51,7 @@ function head() {
     print "#ifndef SPINEYARROW_H"
     print "#define SPINEYARROW_H"
     print ""
+    print "#include <stddef.h>"
     print "#include <stdint.h>"
     print ""
     print "#ifdef __cplusplus"
@@ -76,7 +77,7 @@ function head() {
 }
 
 $1 == "archive" {
-    if (!parts++) print "    SPINEYARROW_WORDS = " words "\n};"
+    if (!parts++) print "    SPINEYARROW_WORDS = " words "\n};\n" ENVIRON["STRUCTS"]
     about = $0
     sub(/^archive [^ ]+ /, "", about)
     printf "\n/* ==== lib%s.a (rt staticlib %s): %s */\n", $2, $2, about
