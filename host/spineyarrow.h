@@ -222,6 +222,28 @@ uint64_t spineyarrow_offer(void *station, uint8_t card, uint8_t channel, uint32_
    those of an offer, and told in the same way, before anything of the station is touched. */
 uint64_t spineyarrow_reset(void *station, uint8_t card, uint8_t channel);
 
+/* ==== liblent_queries.a (rt staticlib lent_queries): what such a station tells; a room counts the numbers of an output, not its bytes */
+
+/* How many slots of the book are filled, the oldest day and the newest, into three elements. Answers 0;
+   or 16 CARD, 12 ROOM. */
+uint64_t spineyarrow_summary(const void *station, uint8_t card, uint64_t *out, uint64_t out_room);
+
+/* The health of the satellite that a channel's record is of: in the next byte 0 unknown, 1 usable, 2 not
+   usable. Or 16 CARD, 1 CHANNEL, 15 OWNER. */
+uint64_t spineyarrow_health(const void *station, uint8_t card, uint8_t channel);
+
+/* A channel's tallies, into fourteen elements: strings offered, clean, repaired, refused, and the refused
+   ones by cause. Answers 0; or 16 CARD, 1 CHANNEL, 15 OWNER, 12 ROOM. */
+uint64_t spineyarrow_tallies(const void *station, uint8_t card, uint8_t channel, uint32_t *out, uint64_t out_room);
+
+/* The entry of a slot, which are numbered from 1, into thirteen elements: its day, and its twelve words.
+   Answers 0; or 16 CARD, 14 SLOT, 12 ROOM, 13 NOTHING. */
+uint64_t spineyarrow_entry(const void *station, uint8_t card, uint8_t slot, int32_t *out, uint64_t out_room);
+
+/* A channel's immediate record: its 26 words into as many elements, and the start of its frame. Answers
+   0; or 16 CARD, 1 CHANNEL, 15 OWNER, 12 ROOM, 13 NOTHING. */
+uint64_t spineyarrow_record(const void *station, uint8_t card, uint8_t channel, int32_t *words, uint64_t words_room, uint32_t *start);
+
 /* ==== liblent_blocks.a (rt staticlib lent_blocks): a block of fields handed to such a station, field by field */
 
 /* Does the field at a place, for the card that hands the block over, and tells it in one number: in its
@@ -231,6 +253,17 @@ uint64_t spineyarrow_field(void *station, uint8_t card, const uint8_t *block, ui
 
 /* The place after the field: its own where it is refused, and at the end. */
 uint64_t spineyarrow_next(const uint8_t *block, uint64_t block_length, uint64_t at);
+
+/* ==== liblent_sites.a (rt staticlib lent_sites): such a station emptied, another site's book joined into its own, its own book for another site */
+
+/* Leaves the station as one that has heard nothing, whatever it was. */
+void spineyarrow_fresh(void *station);
+
+/* Joins the book that 480 bytes are. Any other length is told 2 SHAPE, and then nothing changes. */
+uint64_t spineyarrow_join(void *station, const uint8_t *book, uint64_t book_length);
+
+/* Writes the book's 480 bytes. A room that is not of that many bytes is told 12 ROOM, and stays as it was. */
+uint64_t spineyarrow_book(const void *station, uint8_t *out, uint64_t out_room);
 
 #ifdef __cplusplus
 }

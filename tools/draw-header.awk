@@ -13,7 +13,13 @@ function in_c(name, type,    parts) {
     if (type == "&[u8]") return "const uint8_t *" name ", uint64_t " name "_length"
     if (type == "&mut [u8]") return "uint8_t *" name ", uint64_t " name "_room"
     if (type == "&mut Station") return "void *station"
+    if (type == "&Station") return "const void *station"
     if (type == "&mut f64") return "double *" name
+    if (type == "&mut u32") return "uint32_t *" name
+    if (type ~ /^&mut \[(u32|u64|i32)\]$/) {
+        split(type, parts, /[][ ]+/)
+        return (parts[2] == "i32" ? "int32_t" : number(parts[2])) " *" name ", uint64_t " name "_room"
+    }
     if (type ~ /^&mut \[(i32|f64); [0-9]+\]$/) {
         split(type, parts, /[][; ]+/)
         return (parts[2] == "i32" ? "int32_t " : "double ") name "[" parts[3] "]"
@@ -92,9 +98,10 @@ inside {
     if ($0 ~ /^ +ensures/ || $0 ~ /^\{/) {
         inside = 0
         open = index(call, "("); close_at = match(call, /\) -> /)
-        result = strip(substr(call, close_at + 5))
+        result = close_at ? number(strip(substr(call, close_at + 5))) : "void"
+        if (!close_at) close_at = match(call, /\) $/)
         name = substr(call, 19, open - 19)
-        printf "\n/* %s */\n%s %s(%s);\n", comment, number(result), name, parameters(substr(call, open + 1, close_at - open - 1))
+        printf "\n/* %s */\n%s %s(%s);\n", comment, result, name, parameters(substr(call, open + 1, close_at - open - 1))
         comment = ""
     } else {
         call = call strip($0) " "

@@ -4,4 +4,5 @@ mod resetting;
 mod telling;
 
 pub use offering::spineyarrow_offer;
+pub use offering::sum_up;
 pub use resetting::spineyarrow_reset;

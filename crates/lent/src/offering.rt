@@ -67,7 +67,7 @@ fn bring_one(st: &mut Station, s: Shown) -> bool
 }
 
 // The summary of the book where an entry of it changed: a walk, and no walk where none did.
-fn sum_up(st: &mut Station, changed: bool)
+pub fn sum_up(st: &mut Station, changed: bool)
     ensures { λ _. ⌜ SumsUp (now (st .entry)) changed (now (st .exit)) ⌝ }
 {
     if changed {

@@ -25,7 +25,7 @@ pub fn book_from(bytes: [u8; BOOK_BYTES]) -> Book
 }
 
 // The entry at place i, from 0.
-fn entry_at(s: &[u8], i: usize) -> Entry
+pub fn entry_at(s: &[u8], i: usize) -> Entry
     requires { ⌜ (length (now s) ≡ 480) × (i < 24) ⌝ }
     ensures { λ r. ⌜ r ≡ entryFrom (take 20 (drop (i * 20) (now (s .entry)))) ⌝ }
 {

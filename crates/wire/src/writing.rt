@@ -22,7 +22,7 @@ pub fn book_bytes(b: Book) -> [u8; BOOK_BYTES]
 }
 
 // Slot by slot, 1 to 24.
-fn put_entries(out: &mut [u8], entries: [Entry; SLOTS])
+pub fn put_entries(out: &mut [u8], entries: [Entry; SLOTS])
     requires { ⌜ length (now out) ≡ 480 ⌝ }
     ensures { λ _. ⌜ now (out .exit) ≡ entriesBytes entries ⌝ }
 {

@@ -1,0 +1,3 @@
+pub mod Health
+pub mod Laws
+pub mod Lent

@@ -1,0 +1,4 @@
+pub mod Loops
+pub mod Steps
+pub mod Borrowed
+pub mod Laws
