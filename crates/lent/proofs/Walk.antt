@@ -1,5 +1,6 @@
 -- Steps of a walk by hand, beside the kit's. The locals of a function all at once: its environment (envOf), what each of them holds (locals), and all of
--- them freed (free-all). A call of a function that takes plain values and gives one back (asks), and one to which what is lent here is lent on (lends-on).
+-- them freed (free-all). A call to which a token is lent and something is given up (asks-with), one of a function that takes plain values and gives one back
+-- (asks), one to which a value that may be copied is passed (asks-of), and one to which what is lent here is lent on (lends-on), with something else (lends-with).
 -- Assumes `Given`, and that the table of calls is monotone under a frame.
 use mathlib.Core.Path.{_≡_, sym, ap, subst}
 use mathlib.Core.Bool.{Bool, true, false}
@@ -19,15 +20,15 @@ use prog.Wp.{Heap, Env, Spot, spotOf, Calls, Loops, release}
 use ghost.Atoms.{Atoms, sem}
 use contract.Monad.{fact}
 use sound.WpLaws.{FmC}
-use types.Kit.{Given, Item, ‵, raw, _⊛_, some, later, mean, ⋆, nth, put, ⊢++, ++⊢, Post, Goal, runs, lands, frees, aim, Seq, Step, step, _$_, move, drop, use0, use1, use2, use3, split, fsplit, pick, await}
+use types.Kit.{Given, Item, ‵, raw, _⊛_, some, later, mean, ⋆, nth, put, ⊢++, ++⊢, Post, Goal, runs, lands, frees, aim, Seq, Step, step, _$_, _∵_, !, qed, by, move, drop, use1, use2, use3, split, fsplit, pick, await}
 use types.Run.{Reads, Writes, Walks, Finds, Rv, Opd, Opds, load, addr, from, hop, fld, stop, look, init, assigns}
 use types.Part.{Part, whole, sub, look-in}
 use types.Tokens.{lft-new, lft-end}
 use denote.RattleType.{RattleType}
-use denote.Laws.{Is, Tells, shows}
+use denote.Laws.{Is, Tells, Copy, shows}
 use denote.Lend.{LentAgain, lends-again, comes-back}
 use denote.Ref.{MutRef}
-use denote.Steps.{only, heard, facts}
+use denote.Steps.{only, heard, facts, nothing}
 use denote.Triple.Statement.{Contract, Triple}
 use denote.Triple.Call.{calls-at}
 
@@ -116,6 +117,21 @@ module _ {M : Type 1} {𝓤 : URA M} {H : Heap 𝓤} {A : Atoms 𝓤} {K : Type 
   })
 
   module _ {Γ : List (Item 𝓤)} {E : Env 𝓤 H} {C : Calls 𝓤 H} {f : Name} {xs : List Operand} {Λ : Loops 𝓤 H} {q : Post 𝓤 H} {d : Place} {rest : Body} where
+    -- a call at the ghost value x of the contract c, which asks the token P, and gives it back, and what is given up, I. Of its result r and the arguments' last
+    -- values zs it says φ r zs, and r's machine value is `val r`; L has what it says of zs, and gives is `λ u. id⊢ 𝓤 _`
+    pub asks-with : K → FmC 𝓤 H (W .laws) C → (c : Contract 𝓤) → Triple 𝓤 (C f) c → (x : c .Ghost) (P I : Item 𝓤) → ent 𝓤 (⋆ 𝓤 H A (P ∷ I ∷ [])) (c .pre x)
+        → (R : RattleType) (val : R .Denot → Val) → Tells R (Is R) (λ r. val r ∷ []) → (Z : Type 0) (φ : R .Denot → Z → Type 0) (L : Z → Fml)
+        → ((u : Val) → ent 𝓤 (c .post x u) (H .⇛ (ex 𝓤 (λ (r : R .Denot). sep 𝓤 (sep 𝓤 (mean 𝓤 H A P) (sem 𝓤 H A (R .own r (u ∷ [])))) (ex 𝓤 (λ (zs : Z). sep 𝓤 (sem 𝓤 H A (L zs)) (fact 𝓤 (φ r zs))))))))
+        → ((S : SProp 𝓤) → Opds K W (raw S ∷ Γ) E xs (c .args x)) → ((r : R .Denot) (zs : Z) → φ r zs → Is R r (val r ∷ []) → Seq K W (P ∷ ‵ (L zs) ∷ Γ) (lands C Λ E d (val r) rest q))
+        → Seq K W (P ∷ I ∷ Γ) (runs C Λ E (seq (call f xs d) rest) q)
+    asks-with t fm c met x P I asked R val tl Z φ L gives os k =
+        use2 W (raw (c .pre x)) asked $ calls-at t fm c met x (os (c .pre x)) (λ u.
+        use1 W (later (some (λ (r : R .Denot). (P ⊛ ‵ (R .own r (u ∷ []))) ⊛ some (λ (zs : Z). ‵ (L zs) ⊛ raw (fact 𝓤 (φ r zs)))))) (gives u) $ await t tt $ pick t (λ r.
+        split t $ move t (1 ∷ []) $ pick t (λ zs. split t $ move t (1 ∷ []) $ heard t (φ r zs) (λ e.
+        -- [what is said of the last values; the token and the result]
+        move t (1 ∷ []) $ split t $ move t (1 ∷ []) $ facts t R (Is R) (shows 𝓤 H A R) r (u ∷ []) (λ i.
+        subst (λ (w : Val). Seq K W (P ∷ ‵ (L zs) ∷ Γ) (lands C Λ E d w rest q)) (sym (ap only (tl r (u ∷ []) i))) (k r zs e (subst (Is R r) (tl r (u ∷ []) i) i)))))))
+
     -- a call at the ghost value x of the contract c: what it asks is plain, and is made of nothing (asked). Of its result r it says φ r, and r's machine value is `val r`; L has what it says of the arguments' last values, and gives is `λ u. id⊢ 𝓤 _`
     pub asks : K → FmC 𝓤 H (W .laws) C → (c : Contract 𝓤) → Triple 𝓤 (C f) c → (x : c .Ghost) → ent 𝓤 (emp 𝓤) (c .pre x)
         → (R : RattleType) (val : R .Denot → Val) → Tells R (Is R) (λ r. val r ∷ []) → (φ : R .Denot → Type 0) (Z : Type 0) (L : Z → Fml)
@@ -123,13 +139,31 @@ module _ {M : Type 1} {𝓤 : URA M} {H : Heap 𝓤} {A : Atoms 𝓤} {K : Type 
         → ((P : SProp 𝓤) → Opds K W (raw P ∷ Γ) E xs (c .args x)) → ((r : R .Denot) → φ r → Is R r (val r ∷ []) → Seq K W Γ (lands C Λ E d (val r) rest q))
         → Seq K W Γ (runs C Λ E (seq (call f xs d) rest) q)
     asks t fm c met x asked R val tl φ Z L gives os k =
-        use0 W (raw (c .pre x)) asked $ calls-at t fm c met x (os (c .pre x)) (λ u.
-        use1 W (later (some (λ (r : R .Denot). (‵ ftrue ⊛ ‵ (R .own r (u ∷ []))) ⊛ some (λ (zs : Z). ‵ (L zs) ⊛ raw (fact 𝓤 (φ r)))))) (gives u) $ await t tt $ pick t (λ r.
-        split t $ move t (1 ∷ []) $ pick t (λ zs. split t $ drop t $ heard t (φ r) (λ e. split t $ drop t $ facts t R (Is R) (shows 𝓤 H A R) r (u ∷ []) (λ i.
-        subst (λ (w : Val). Seq K W Γ (lands C Λ E d w rest q)) (sym (ap only (tl r (u ∷ []) i))) (k r e (subst (Is R r) (tl r (u ∷ []) i) i)))))))
+        nothing t $ nothing t $ asks-with t fm c met x (‵ ftrue) (‵ ftrue) (qed W (‵ ftrue ∷ ‵ ftrue ∷ []) ∵ drop ! $ drop ! $ by ! asked) R val tl Z (λ r zs. φ r) L gives os (λ r zs e i. drop t $ drop t $ k r e i)
 
     -- a call to which what is lent here is lent on, for a lifetime of the call's own: it comes back as the call left it. The reference and its token stand
-    -- first. Of what is then lent, st′, and of the result r the contract c says φ st′ r; L has what it says of the other arguments' last values
+    -- first, then what is handed in beside them, In, of which Out comes back. Of what is then lent, st′, and of the result r the contract c says φ st′ r; L has
+    -- what it says of the other arguments' last values
+    pub lends-with : K → FmC 𝓤 H (W .laws) C → (D : RattleType) (κ : Lft) (s : Share) (γ : GName) (b o : ℕ) (st : D .Denot) (In Out : Item 𝓤) (c : Contract 𝓤) → Triple 𝓤 (C f) c → (x : Lft → GName → c .Ghost)
+        → ((κ₁ : Lft) (δ : GName) → ent 𝓤 (⋆ 𝓤 H A (refTo 𝓤 D b o κ₁ δ st ∷ ‵ (flft κ₁ fullShare) ∷ In ∷ [])) (c .pre (x κ₁ δ)))
+        → (R : RattleType) (val : R .Denot → Val) → Tells R (Is R) (λ r. val r ∷ []) → (φ : D .Denot → R .Denot → Type 0) (Z : Type 0) (L : Z → Fml)
+        → ((κ₁ : Lft) (δ : GName) (u : Val) → ent 𝓤 (c .post (x κ₁ δ) u) (H .⇛ (ex 𝓤 (λ (r : R .Denot). sep 𝓤 (sep 𝓤 (sep 𝓤 (sem 𝓤 H A (flft κ₁ fullShare)) (mean 𝓤 H A Out)) (sem 𝓤 H A (R .own r (u ∷ [])))) (ex 𝓤 (λ (zs : D .Denot × Z). sep 𝓤 (sem 𝓤 H A (fsep (fres δ (D .coded .code (zs .0))) (L (zs .1)))) (fact 𝓤 (φ (zs .0) r))))))))
+        → ((κ₁ : Lft) (δ : GName) (i j : Item 𝓤) → Opds K W (i ∷ j ∷ Γ) E xs (c .args (x κ₁ δ)))
+        → ((st′ : D .Denot) (r : R .Denot) → φ st′ r → Is R r (val r ∷ []) → Seq K W (refTo 𝓤 D b o κ γ st′ ∷ ‵ (flft κ s) ∷ Out ∷ Γ) (lands C Λ E d (val r) rest q))
+        → Seq K W (refTo 𝓤 D b o κ γ st ∷ ‵ (flft κ s) ∷ In ∷ Γ) (runs C Λ E (seq (call f xs d) rest) q)
+    lends-with t fm D κ s γ b o st In Out c met x asked R val tl φ Z L gives os k =
+        lft-new t tt (λ ν. move t (1 ∷ 2 ∷ []) $
+        use2 W (later (some (λ (δ : GName). refTo 𝓤 D b o (ν ∷ []) δ st ⊛ ‵ (LentAgain D κ (ν ∷ []) s γ b o δ st)))) (lends-again 𝓤 H A W D (named 0) κ (ν ∷ []) s γ b o (named 0) st) $ await t tt $ pick t (λ δ. split t $
+        -- [the reference lent on; what is kept of it; the token; what is handed in]
+        move t (0 ∷ 2 ∷ 3 ∷ []) $ use3 W (raw (c .pre (x (ν ∷ []) δ))) (asked (ν ∷ []) δ) $ calls-at t fm c met (x (ν ∷ []) δ) (os (ν ∷ []) δ _ _) (λ u.
+        use1 W (later (some (λ (r : R .Denot). ((‵ (flft (ν ∷ []) fullShare) ⊛ Out) ⊛ ‵ (R .own r (u ∷ []))) ⊛ some (λ (zs : D .Denot × Z). ‵ (fsep (fres δ (D .coded .code (zs .0))) (L (zs .1))) ⊛ raw (fact 𝓤 (φ (zs .0) r)))))) (gives (ν ∷ []) δ u) $ await t tt $ pick t (λ r.
+        split t $ move t (1 ∷ []) $ pick t (λ zs. split t $ move t (1 ∷ []) $ heard t (φ (zs .0) r) (λ g. fsplit t $ move t (2 ∷ []) $ split t $ split t $
+        lft-end t tt $ move t (0 ∷ 5 ∷ 3 ∷ []) $ use3 W (later (refTo 𝓤 D b o κ γ (zs .0) ⊛ ‵ (flft κ s))) (comes-back 𝓤 H A W D (named 0) κ (ν ∷ []) s γ b o δ st (zs .0)) $ await t tt $ split t $
+        -- [the reference; its token; what comes back; the result; true]
+        move t (3 ∷ []) $ facts t R (Is R) (shows 𝓤 H A R) r (u ∷ []) (λ i. move t (3 ∷ []) $ drop t $
+        subst (λ (w : Val). Seq K W (refTo 𝓤 D b o κ γ (zs .0) ∷ ‵ (flft κ s) ∷ Out ∷ Γ) (lands C Λ E d w rest q)) (sym (ap only (tl r (u ∷ []) i))) (k (zs .0) r g (subst (Is R r) (tl r (u ∷ []) i) i)))))))))
+
+    -- and one to which nothing else is handed in
     pub lends-on : K → FmC 𝓤 H (W .laws) C → (D : RattleType) (κ : Lft) (s : Share) (γ : GName) (b o : ℕ) (st : D .Denot) (c : Contract 𝓤) → Triple 𝓤 (C f) c → (x : Lft → GName → c .Ghost)
         → ((κ₁ : Lft) (δ : GName) → ent 𝓤 (⋆ 𝓤 H A (refTo 𝓤 D b o κ₁ δ st ∷ ‵ (flft κ₁ fullShare) ∷ [])) (c .pre (x κ₁ δ)))
         → (R : RattleType) (val : R .Denot → Val) → Tells R (Is R) (λ r. val r ∷ []) → (φ : D .Denot → R .Denot → Type 0) (Z : Type 0) (L : Z → Fml)
@@ -138,16 +172,23 @@ module _ {M : Type 1} {𝓤 : URA M} {H : Heap 𝓤} {A : Atoms 𝓤} {K : Type 
         → ((st′ : D .Denot) (r : R .Denot) → φ st′ r → Is R r (val r ∷ []) → Seq K W (refTo 𝓤 D b o κ γ st′ ∷ ‵ (flft κ s) ∷ Γ) (lands C Λ E d (val r) rest q))
         → Seq K W (refTo 𝓤 D b o κ γ st ∷ ‵ (flft κ s) ∷ Γ) (runs C Λ E (seq (call f xs d) rest) q)
     lends-on t fm D κ s γ b o st c met x asked R val tl φ Z L gives os k =
-        lft-new t tt (λ ν. move t (1 ∷ 2 ∷ []) $
-        use2 W (later (some (λ (δ : GName). refTo 𝓤 D b o (ν ∷ []) δ st ⊛ ‵ (LentAgain D κ (ν ∷ []) s γ b o δ st)))) (lends-again 𝓤 H A W D (named 0) κ (ν ∷ []) s γ b o (named 0) st) $ await t tt $ pick t (λ δ. split t $
-        -- [the reference lent on; what is kept of it; the token]
-        move t (0 ∷ 2 ∷ []) $ use2 W (raw (c .pre (x (ν ∷ []) δ))) (asked (ν ∷ []) δ) $ calls-at t fm c met (x (ν ∷ []) δ) (os (ν ∷ []) δ _ _) (λ u.
-        use1 W (later (some (λ (r : R .Denot). ((‵ (flft (ν ∷ []) fullShare) ⊛ ‵ ftrue) ⊛ ‵ (R .own r (u ∷ []))) ⊛ some (λ (zs : D .Denot × Z). ‵ (fsep (fres δ (D .coded .code (zs .0))) (L (zs .1))) ⊛ raw (fact 𝓤 (φ (zs .0) r)))))) (gives (ν ∷ []) δ u) $ await t tt $ pick t (λ r.
-        split t $ move t (1 ∷ []) $ pick t (λ zs. split t $ move t (1 ∷ []) $ heard t (φ (zs .0) r) (λ g. fsplit t $ move t (2 ∷ []) $ split t $ split t $
-        lft-end t tt $ move t (0 ∷ 5 ∷ 3 ∷ []) $ use3 W (later (refTo 𝓤 D b o κ γ (zs .0) ⊛ ‵ (flft κ s))) (comes-back 𝓤 H A W D (named 0) κ (ν ∷ []) s γ b o δ st (zs .0)) $ await t tt $ split t $
-        -- [the reference; its token; true; the result; true]
-        move t (3 ∷ []) $ facts t R (Is R) (shows 𝓤 H A R) r (u ∷ []) (λ i. move t (2 ∷ []) $ drop t $ move t (2 ∷ []) $ drop t $
-        subst (λ (w : Val). Seq K W (refTo 𝓤 D b o κ γ (zs .0) ∷ ‵ (flft κ s) ∷ Γ) (lands C Λ E d w rest q)) (sym (ap only (tl r (u ∷ []) i))) (k (zs .0) r g (subst (Is R r) (tl r (u ∷ []) i) i)))))))))
+        nothing t $ move t (1 ∷ 2 ∷ []) $
+        lends-with t fm D κ s γ b o st (‵ ftrue) (‵ ftrue) c met x (λ κ₁ δ. qed W (refTo 𝓤 D b o κ₁ δ st ∷ ‵ (flft κ₁ fullShare) ∷ ‵ ftrue ∷ []) ∵ move ! (2 ∷ []) $ drop ! $ by ! (asked κ₁ δ)) R val tl φ Z L gives os
+        (λ st′ r e i. move t (2 ∷ []) $ drop t $ k st′ r e i)
+
+  module _ {Γ : List (Item 𝓤)} {E : Env 𝓤 H} {C : Calls 𝓤 H} {f : Name} {xs : List Operand} {Λ : Loops 𝓤 H} {q : Post 𝓤 H} {d : Place} {rest : Body} where
+    -- a call to which a value that may be copied is passed, with its lifetime's token, as where a part of a lent slice is read: the token and what is owned of
+    -- the value stand first, before the call and after it. Else as `asks`
+    pub asks-of : K → FmC 𝓤 H (W .laws) C → (κ : Lft) (s : Share) (D : RattleType) → Copy 𝓤 H A D → (y : D .Denot) (vs : List Val) → (c : Contract 𝓤) → Triple 𝓤 (C f) c → (x : c .Ghost)
+        → ent 𝓤 (⋆ 𝓤 H A ((‵ (flft κ s) ⊛ ‵ ftrue) ∷ ‵ (D .own y vs) ∷ [])) (c .pre x)
+        → (R : RattleType) (val : R .Denot → Val) → Tells R (Is R) (λ r. val r ∷ []) → (φ : R .Denot → Type 0) (Z : Type 0) (L : Z → Fml)
+        → ((u : Val) → ent 𝓤 (c .post x u) (H .⇛ (ex 𝓤 (λ (r : R .Denot). sep 𝓤 (sep 𝓤 (sep 𝓤 (sem 𝓤 H A (flft κ s)) (sem 𝓤 H A ftrue)) (sem 𝓤 H A (R .own r (u ∷ [])))) (ex 𝓤 (λ (zs : Z). sep 𝓤 (sem 𝓤 H A (L zs)) (fact 𝓤 (φ r))))))))
+        → ((i j : Item 𝓤) → Opds K W (i ∷ j ∷ Γ) E xs (c .args x)) → ((r : R .Denot) → φ r → Is R r (val r ∷ []) → Seq K W ((‵ (flft κ s) ⊛ ‵ ftrue) ∷ ‵ (D .own y vs) ∷ Γ) (lands C Λ E d (val r) rest q))
+        → Seq K W ((‵ (flft κ s) ⊛ ‵ ftrue) ∷ ‵ (D .own y vs) ∷ Γ) (runs C Λ E (seq (call f xs d) rest) q)
+    asks-of t fm κ s D cp y vs c met x asked R val tl φ Z L gives os k =
+        move t (1 ∷ []) $ use1 W (‵ (D .own y vs) ⊛ ‵ (D .own y vs)) (cp .twice y vs) $ split t $ move t (2 ∷ 0 ∷ []) $
+        -- [the token; what is owned; the same; …]
+        asks-with t fm c met x (‵ (flft κ s) ⊛ ‵ ftrue) (‵ (D .own y vs)) asked R val tl Z (λ r zs. φ r) L gives (λ S. os (raw S) (‵ (D .own y vs))) (λ r zs e i. move t (1 ∷ []) $ drop t $ k r e i)
 
   -- ---- a field of a local, and a field of a field, as an operand: entry n of the context is the local's cell. The kit's rules for it write out the
   -- types of all locals, each time anew; here they are any

@@ -10,7 +10,7 @@ use native.Mathlib.Omega.{arith}
 use borrow.Author.Tests.{leb-true, le-leb}
 use lib.Dec.{T, eqb, leb, ltb}
 use Rattle.strings.specs.Pick.{pick}
-use Rattle.strings.specs.Numbers.{firstOf, answerOf}
+use Rattle.strings.specs.Numbers.{firstOf}
 use Rattle.book.specs.declared.Entry.{Entry}
 use Rattle.book.specs.declared.Book.{Book}
 use Rattle.book.specs.Entry.{meaning}

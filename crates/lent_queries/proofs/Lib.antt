@@ -1,6 +1,5 @@
 pub mod Filled
 pub mod Healths
 pub mod Laws
-pub mod Looking
 pub mod Said
 pub mod Slots

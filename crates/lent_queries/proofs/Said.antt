@@ -2,7 +2,7 @@
 -- and one that has not (has-room, no-room; room-none, then-nothing, then-made where a test for NOTHING follows).
 -- Assumes nothing.
 use mathlib.Core.Path.{_≡_, refl, sym, ap, _∙_}
-use mathlib.Core.Bool.{Bool, true, false, not, _&&_}
+use mathlib.Core.Bool.{Bool, true, false, not}
 use mathlib.Core.List.{List, [], _∷_, _++_}
 use Prim.Native.Nat.{ℕ, zero, suc, _<_}
 use native.Mathlib.Omega.{arith}
@@ -10,7 +10,7 @@ use borrow.Author.Tests.{eq-eqb, ne-eqb}
 use lib.Dec.{T, eqb, ltb, ltb→lt, nltb→le}
 use lib.ListN.{length}
 use Rattle.strings.specs.Pick.{pick}
-use Rattle.strings.specs.Numbers.{Test, test, firstOf, placeOf, saidBy, answerOf}
+use Rattle.strings.specs.Numbers.{Test, test, firstOf, saidBy, answerOf}
 use Rattle.strings.proofs.Below.{and-left, and-right}
 use Rattle.strings.proofs.Tests.{placeless, no-place, allOf}
 use Rattle.told.specs.Told.{packed}

@@ -14,14 +14,13 @@ use Rattle.wire.specs.Bytes.{bookBytes, bookFrom}
 use Rattle.wire.specs.Laws.{Sent}
 use Rattle.wire.proofs.Laws.{laws as wire-laws}
 use Rattle.station.specs.declared.Station.{Station}
-use Rattle.station.specs.Station.{freshStation}
 use Rattle.station.specs.History.{Offer, Reset}
 use Rattle.sites.specs.Joining.{siteJoined}
 use Rattle.sites.specs.Lives.{Life, Fresh, Then, Joined, Lived, fresh, offering, resetting, joining}
 use Rattle.sites.proofs.Lives.{every-life}
 use Rattle.lent.specs.Lent.{OffersLent, ResetsLent}
 use Rattle.lent.proofs.Laws.{laws as lent-laws}
-use Rattle.lent_sites.specs.Lent.{bookLength, FreshLent, JoinsLent, SendsLent}
+use Rattle.lent_sites.specs.Lent.{bookLength, JoinsLent, SendsLent}
 use Rattle.lent_sites.specs.Laws.{Laws}
 
 -- ---- the test of a length, either way

@@ -1,4 +1,2 @@
 pub mod Loops
-pub mod Steps
-pub mod Borrowed
 pub mod Laws

@@ -20,9 +20,8 @@ use Rattle.summary.specs.declared.Summary.{Summary}
 use Rattle.summary.specs.Walk.{noneFilled}
 use Rattle.channel.specs.declared.Row.{Row}
 use Rattle.channel.specs.Row.{emptyRow}
-use Rattle.station.specs.declared.Station.{Station}
 use Rattle.station.specs.Station.{channels, freshStation}
-use Rattle.wire.specs.Bytes.{entryFrom, entriesFrom, bookFrom}
+use Rattle.wire.specs.Bytes.{entryFrom, entriesFrom}
 use Rattle.wire.proofs.Begun.{Begun, begun-none, begun-set, begun-all}
 use Rattle.sites.specs.Joining.{keptOf, joinBooks}
 use Rattle.sites.proofs.Slots.{Passed, begins, goes-on, ends}

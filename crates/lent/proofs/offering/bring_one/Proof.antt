@@ -21,22 +21,21 @@ use prog.Wp.{Heap, Env, Calls, Loops, WpFn, Tables}
 use ghost.Atoms.{Atoms}
 use contract.Monad.{Fun}
 use contract.Running.{givenOf, tables, tablesOf}
-use types.Kit.{Given, Item, Sq, ‵, _⊛_, ⋆, runs, atRet, _$_, _∵_, !, qed, by, move, drop, use1, split, join, rewrite, fsplit, fsplit3, fjoin, fjoin3, feqI, suffices, frame, done}
+use types.Kit.{Given, Item, Sq, ‵, _⊛_, ⋆, runs, atRet, _$_, _∵_, !, qed, by, move, drop, split, join, rewrite, fsplit, fsplit3, fjoin, fjoin3, feqI, suffices, frame, done}
 use types.Part.{whole, sub, look-in, store-in}
 use types.Run.{look, init, lit, bin, addr, stop, hop, fld, from, load, of-opd, and-then, no-more, assigns-last, exec, land, returns, enter, alloc1, alloc0, params1, pass1, pass0}
 use types.SemTy.{Body}
 use sound.WpLaws.{FmC, fmOf, WpFn-mono}
 use denote.RattleType.{owns}
-use denote.Laws.{Is, shows}
-use denote.Memory.{mem, cellAt}
+use denote.Laws.{Is}
+use denote.Memory.{mem}
 use denote.Index.{place-is}
 use denote.Plain.{uint-tells, uint-lawful, bool-tells, bool-lawful, bool-makes}
 use denote.Array.{arrayVal}
 use denote.Builtin.{usize, bool}
 use denote.Ref.{RefT, MutRef, ptr-vals, mut-tells}
 use denote.Signature.{plain}
-use denote.Steps.{opens, closes, owned, facts, nothing}
-use denote.Struct.Steps.{spelt}
+use denote.Steps.{owned, nothing}
 use denote.Struct.Laws as LL
 use denote.Enum.Laws as EL
 use denote.Triple.Statement.{Contract, Triple}
@@ -74,6 +73,7 @@ use Rattle.station.specs.declared.Station.{Station}
 use Rattle.station.proofs.Station as ST
 use Rattle.station.proofs.Station.Laws as ST′
 use Rattle.lent.specs.Lent.{BringsOne}
+use Rattle.lent.proofs.Borrowed.{opens-station, closes-station}
 use Rattle.lent.proofs.Item.{map-set, either-way, lows-set, low-is, low-typed, low-item}
 use Rattle.lent.proofs.Parts.{entryBytes, bookAt, rowsVal, bookVal, stationVal, Whole, rows-of, summary-of, entries-of, book-made, made-of}
 use Rattle.lent.proofs.Walk.{envOf, locals, free-all, keeps, local-of, sets, asks}
@@ -193,8 +193,7 @@ module _ {M : Type 1} (𝓤 : URA M) (H : Heap 𝓤) (A : Atoms 𝓤) (W : Given
       leaves : (st : Station) (v : Val) (t : Bool) → Is ST.the-row st (v ∷ []) → BringsOne h s st t
           → Sq W (‵ (fat fullShare ST′.mir b o v) ∷ ‵ (fobor κ q (Body (mem ST.the-row) b o γ)) ∷ ‵ (fobs γ (ST.the-row .coded .code h)) ∷ ‵ (fauth γ (ST.the-row .coded .code h)) ∷ locals 𝓤 H En (none ∷ none ∷ none ∷ none ∷ holding (vbool t) ∷ [])) (runs C Λ En body.t-9 (atRet En Post))
       leaves st v t iv e =
-          use1 W (‵ (cellAt fullShare (ST.the-row .mir) (v ∷ []) b o)) (W .laws .at-raw fullShare ST′.mir b o v) $
-          owned ! ST.the-row (Is ST.the-row) (LL.makes ST.the-type ST′.the-plain 𝓤 H A) st _ iv $ move ! (1 ∷ 0 ∷ []) $ closes ! tt ST.the-row st (v ∷ []) b o $
+          closes-station ! tt st v b o iv $
           -- [obs; the borrow; the token; _17; …; _0; …]
           sets ! (of-opd ! (local-of ! 29 refl refl)) 37 refl refl (tt, tt) $ returns ! (look ! 37 refl) $
           free-all (Ends st) (holding _ ∷ none ∷ none ∷ none ∷ holding _ ∷ []) ! $ by ! (exits st t e)
@@ -206,9 +205,7 @@ module _ {M : Type 1} (𝓤 : URA M) (H : Heap 𝓤) (A : Atoms 𝓤) (W : Given
         pass1 ! (init ! 32 refl (tt, tt)) $ pass1 ! (init ! 30 refl (EL.lawful SH.the-type SH′.the-laws 𝓤 H A W tt .typed s _ is .0)) $ pass0 ! $
         -- [what the reference owns; what is shown; the locals; the token and true]
         move ! (37 ∷ []) $ fsplit ! $ fsplit3 ! $ drop ! $ move ! (2 ∷ []) $ drop ! $ move ! (38 ∷ []) $ split ! $ move ! (1 ∷ []) $ drop ! $ move ! (1 ∷ 2 ∷ 0 ∷ []) $
-        opens ! tt ST.the-row {h = h} b o (λ vs. spelt ! ST.the-row (Is ST.the-row) (shows 𝓤 H A ST.the-row) (λ d. ST′.lowered d ∷ []) (ST′.lowers .val-is) fullShare h vs b o $
-        move ! (1 ∷ []) $ facts ! ST.the-row (Is ST.the-row) (shows 𝓤 H A ST.the-row) h (ST′.lowered h ∷ []) (λ ih.
-        use1 W (‵ (fat fullShare ST′.mir b o (stationVal (rowsVal (h .rows)) (bookVal (arrayVal us)) (SM′.lowered (h .summary))))) (W .laws .raw-at fullShare ST′.mir b o (ST′.lowered h)) $
+        opens-station ! tt h b o (λ ih.
         -- [the station's cell; the open borrow; obs; auth; _17; …; _0; …]: local i is at 38 - 2 · i
         asks ! fm (Place 𝓤 H A at-mem run) known-place to-place (goes-place is ib) usize (vint w64) (uint-tells w64) (λ r. (r ≡ placeIn s) × (r < slots)) _ (lasts place′.ended tt (s, tt)) (λ u. id⊢ 𝓤 _)
         (λ P. and-then ! (local-of ! 35 refl refl) (no-more !)) (λ k ek ik.
@@ -245,7 +242,7 @@ module _ {M : Type 1} (𝓤 : URA M) (H : Heap 𝓤) (A : Atoms 𝓤) (W : Given
         keeps (_ ∷ _ ∷ _ ∷ _ ∷ []) (En l₀ l₁ l₂ l₃ l₄ l₅ l₆ l₇ l₈ l₉ l₁₀ l₁₁ l₁₂ l₁₃ l₁₄ l₁₅ l₁₆ l₁₇) answer-kept (none ∷ holding _ ∷ holding _ ∷ holding _ ∷ holding _ ∷ holding _ ∷ holding _ ∷ holding _ ∷ holding _ ∷ holding _ ∷ holding _ ∷ holding _ ∷ holding _ ∷ holding _ ∷ holding _ ∷ holding _ ∷ holding _ ∷ holding _ ∷ []) ! $
         leaves l₀ l₁ l₂ l₃ l₄ l₅ l₆ l₇ l₈ l₉ l₁₀ l₁₁ l₁₂ l₁₃ l₁₄ l₁₅ l₁₆ l₁₇ (left h k e) _ y (left-is k e ie ih) (joined-one h s k e y (ek .0) ey ee)))
         (λ f. keeps (_ ∷ _ ∷ _ ∷ _ ∷ []) (En l₀ l₁ l₂ l₃ l₄ l₅ l₆ l₇ l₈ l₉ l₁₀ l₁₁ l₁₂ l₁₃ l₁₄ l₁₅ l₁₆ l₁₇) answer-kept (none ∷ holding _ ∷ holding _ ∷ holding _ ∷ holding _ ∷ holding _ ∷ holding _ ∷ holding _ ∷ holding _ ∷ holding _ ∷ []) ! $
-        leaves l₀ l₁ l₂ l₃ l₄ l₅ l₆ l₇ l₈ l₉ l₁₀ l₁₁ l₁₂ l₁₃ l₁₄ l₁₅ l₁₆ l₁₇ h _ y ih (kept-one h s k y (ek .0) ey f))))))))))))))))))))))))
+        leaves l₀ l₁ l₂ l₃ l₄ l₅ l₆ l₇ l₈ l₉ l₁₀ l₁₁ l₁₂ l₁₃ l₁₄ l₁₅ l₁₆ l₁₇ h _ y ih (kept-one h s k y (ek .0) ey f)))))))))))))))))))))))
 
 module _ {M : Type 1} (𝓤 : URA M) (H : Heap 𝓤) (A : Atoms 𝓤) (W : Given 𝓤 H A) (mem : Memory → SProp 𝓤) (run : Routine → Fun 𝓤) (𝓣 : Tables 𝓤 H) (known-place : Triple 𝓤 (𝓣 .C #book·place-of) (Place 𝓤 H A mem run)) (known-rises : Triple 𝓤 (𝓣 .C #book·rises) (Rises 𝓤 H A mem run)) (known-join : Triple 𝓤 (𝓣 .C #book·join) (Join 𝓤 H A mem run)) where
   one-walks : Walks 𝓤 H A one.ended stayed (WpFn 𝓤 H (𝓣 .C) (𝓣 .Λ) code.function) (one.clauses 𝓤 H A mem run)

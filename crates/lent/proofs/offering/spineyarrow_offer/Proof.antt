@@ -31,7 +31,7 @@ use types.Run.{look, init, store, lit, bin, un, returns-within, stop, hop, fld, 
 use sound.WpLaws.{FmC, fmOf, WpFn-mono}
 use denote.RattleType.{owns}
 use denote.Laws.{Is, shows}
-use denote.Memory.{cellAt, mem}
+use denote.Memory.{mem}
 use denote.Index.{place-is}
 use denote.Plain.{uint-vals, uint-tells, uint-makes, uint-lawful, nothing-tells}
 use denote.Array.{Array, arrayVal, array-tells, array-makes, array-lawful}
@@ -39,8 +39,7 @@ use denote.Builtin.{u8, u16, u32, u64, unit, SliceRefOf}
 use denote.Ref.{RefT, MutRef, ptr-vals, mut-tells}
 use denote.Slice.{sliceVal, ShrSlice, slice-vals, shr-slice-tells, shr-slice-lawful}
 use denote.Signature.{Slot, plain}
-use denote.Steps.{only, opens, closes, owned, facts, heard, nothing}
-use denote.Struct.Steps.{spelt}
+use denote.Steps.{only, owned, facts, heard, nothing}
 use denote.Struct.Laws as LL
 use denote.Enum.Laws as EL
 use denote.Triple.Statement.{Contract, Triple}
@@ -93,6 +92,7 @@ use Rattle.station.proofs.Station as ST
 use Rattle.station.proofs.Station.Laws as ST′
 use Rattle.told.specs.Told.{packed}
 use Rattle.lent.specs.Lent.{OffersLent, BringsAll}
+use Rattle.lent.proofs.Borrowed.{opens-station, closes-station}
 use Rattle.lent.proofs.Gate.{shut-out, let-in, served, wide, in-bytes, GateNumber, to-gate, goes-gate}
 use Rattle.lent.proofs.Item.{lowly, map-set, either-way, bytes-is, low-is, low-typed, low-item}
 use Rattle.lent.proofs.Parts.{rowBytes, rowsVal, stationVal, Whole, rows-of, row-typed, withRow, row-put}
@@ -332,8 +332,7 @@ module _ {M : Type 1} (𝓤 : URA M) (H : Heap 𝓤) (A : Atoms 𝓤) (W : Given
               rewrite ! 9 (λ (z : ℕ). ‵ (fat fullShare tyPtr l₁₇ 0 (vptr b z))) (sym (place-is rowBytes (o + 0) c)) refl $
               assigns ! (of-opd ! (load ! (from ! (fld ! refl (stop !))) (look-in ! 27 (sub ! 0 refl (whole !))))) (from ! (hop ! (look ! 9 refl) (stop !))) (store-in ! 0 (low-item ! RW.the-type RW′.lowers (h .rows) (rows-of h _ ih) c (served card c n) noRow (sub ! 0 refl (whole !))) (row-typed 𝓤 H A W (p .row) iw)) $
               rewrite ! 0 (λ (ws : List Val). ‵ (fat fullShare ST′.mir b o (stationVal (arrayVal ws) (BK′.lowered (h .book)) (SM′.lowered (h .summary))))) (map-set RW′.lowered (h .rows) c (p .row)) refl $
-              use1 W (‵ (cellAt fullShare (ST.the-row .mir) (stationVal (rowsVal (set (h .rows) c (p .row))) (BK′.lowered (h .book)) (SM′.lowered (h .summary)) ∷ []) b o)) (W .laws .at-raw fullShare ST′.mir b o (stationVal (rowsVal (set (h .rows) c (p .row))) (BK′.lowered (h .book)) (SM′.lowered (h .summary)))) $
-              owned ! ST.the-row (Is ST.the-row) (LL.makes ST.the-type ST′.the-plain 𝓤 H A) (withRow h c (p .row)) _ (row-put h c (p .row) ih iw) $ move ! (1 ∷ 0 ∷ []) $ closes ! tt ST.the-row (withRow h c (p .row)) (stationVal (rowsVal (set (h .rows) c (p .row))) (BK′.lowered (h .book)) (SM′.lowered (h .summary)) ∷ []) b o $
+              closes-station ! tt (withRow h c (p .row)) (stationVal (rowsVal (set (h .rows) c (p .row))) (BK′.lowered (h .book)) (SM′.lowered (h .summary))) b o (row-put h c (p .row) ih iw) $
               feqI ! (List Val) (vptr b o ∷ []) (vptr b o ∷ []) refl $ fjoin3 ! $
               from-newly r er ir _ _ _ _ _ _ _ _ _ _ _ _ _)
 
@@ -354,9 +353,7 @@ module _ {M : Type 1} (𝓤 : URA M) (H : Heap 𝓤) (A : Atoms 𝓤) (W : Given
           (λ t. sets ! (of-opd ! (local-of ! 30 refl refl)) 42 refl refl (uint-lawful 𝓤 H A W w64 .typed z _ iz .0) $
           returns-within ! Post refl (look ! 42 refl) $ move ! (3 ∷ []) $ drop ! $ free-all (Ends h) (holding _ ∷ holding _ ∷ holding _ ∷ holding _ ∷ holding _ ∷ holding _ ∷ holding _ ∷ none ∷ none ∷ none ∷ none ∷ holding _ ∷ []) ! $ by ! (exits h z _ (refused-lent h card c e (s .now) z ez t) iz))
           (λ no. let n = let-in card c z ez no in fsplit3 ! $ drop ! $
-          opens ! tt ST.the-row {h = h} b o (λ vs. spelt ! ST.the-row (Is ST.the-row) (shows 𝓤 H A ST.the-row) (λ d. ST′.lowered d ∷ []) (ST′.lowers .val-is) fullShare h vs b o $
-          move ! (1 ∷ []) $ facts ! ST.the-row (Is ST.the-row) (shows 𝓤 H A ST.the-row) h (ST′.lowered h ∷ []) (λ ih.
-          use1 W (‵ (fat fullShare ST′.mir b o (stationVal (rowsVal (h .rows)) (BK′.lowered (h .book)) (SM′.lowered (h .summary))))) (W .laws .raw-at fullShare ST′.mir b o (ST′.lowered h)) $
+          opens-station ! tt h b o (λ ih.
           -- [the station's cell; the open borrow; obs; auth; the slice's token; what the slice owns; _19; …; _0; …]: local i is at 44 - 2 · i
           sets ! (un ! (local-of ! 38 refl refl) (record { fits = wide card c n })) 30 refl refl (tt, record { fits = wide card c n }) $
           sets ! (bin ! (local-of ! 30 refl refl) (lit ! tt) (record { fits = in-bytes card c n })) 20 refl refl (tt, record { fits = in-bytes card c n }) $
@@ -374,7 +371,7 @@ module _ {M : Type 1} (𝓤 : URA M) (H : Heap 𝓤) (A : Atoms 𝓤) (W : Given
           -- [the station's cell; the open borrow; obs; auth; the slice's token; _19; …; _0; …]: local i is at 43 - 2 · i
           land ! (from ! (stop !)) (init ! 27 refl (LL.lawful OF.the-type OF′.the-laws 𝓤 H A W .typed p _ ip .0)) $
           rewrite ! 27 (λ (ws : List Val). ‵ (fat fullShare OF′.mir l₈ 0 (only ws))) (OF′.lowers .val-is p _ ip) refl $
-          from-offered _ _ l₀ l₁ l₂ l₃ l₄ l₅ l₆ l₇ l₈ l₉ l₁₀ l₁₁ l₁₂ l₁₃ l₁₄ l₁₅ l₁₆ l₁₇ l₁₈ l₁₉ n p ep _ (row-is p _ ip) (answer-is p _ ip) ih _ _ _ _ _ _ _ _ _ _)))))))))))))))))))))))))))))
+          from-offered _ _ l₀ l₁ l₂ l₃ l₄ l₅ l₆ l₇ l₈ l₉ l₁₀ l₁₁ l₁₂ l₁₃ l₁₄ l₁₅ l₁₆ l₁₇ l₁₈ l₁₉ n p ep _ (row-is p _ ip) (answer-is p _ ip) ih _ _ _ _ _ _ _ _ _ _))))))))))))))))))))))))))))
 
 module _ {M : Type 1} (𝓤 : URA M) (H : Heap 𝓤) (A : Atoms 𝓤) (W : Given 𝓤 H A) (mem : Memory → SProp 𝓤) (run : Routine → Fun 𝓤) (𝓣 : Tables 𝓤 H) (known-gate : Triple 𝓤 (𝓣 .C #station·gate-number) (GateNumber 𝓤 H A mem run)) (known-offer : Triple 𝓤 (𝓣 .C #channel·offer) (Offer 𝓤 H A mem run)) (known-newly : Triple 𝓤 (𝓣 .C #shows·newly-shown) (Newly 𝓤 H A mem run)) (known-all : Triple 𝓤 (𝓣 .C #lent·bring-all) (All 𝓤 H A mem run)) (known-told : Triple 𝓤 (𝓣 .C #lent·told-in) (Told 𝓤 H A mem run)) where
   lent-walks : Walks 𝓤 H A lent.ended stayed (WpFn 𝓤 H (𝓣 .C) (𝓣 .Λ) code.function) (lent.clauses 𝓤 H A mem run)

@@ -19,21 +19,20 @@ use prog.Wp.{Heap, Env, Calls, Loops, WpFn, Tables}
 use ghost.Atoms.{Atoms}
 use contract.Monad.{Fun}
 use contract.Running.{givenOf, tables, tablesOf}
-use types.Kit.{Given, Item, Sq, ‵, _⊛_, ⋆, runs, atRet, _$_, _∵_, !, qed, by, move, drop, use1, split, join, fsplit, fsplit3, fjoin, fjoin3, feqI, suffices, frame, done}
+use types.Kit.{Given, Item, Sq, ‵, _⊛_, ⋆, runs, atRet, _$_, _∵_, !, qed, by, move, drop, split, join, fsplit, fsplit3, fjoin, fjoin3, feqI, suffices, frame, done}
 use types.Part.{whole, sub, look-in, store-in}
 use types.Run.{look, init, unit-lit, forget, stop, hop, fld, from, load, of-opd, and-then, no-more, assigns, assigns-last, exec, land, returns, enter, alloc1, alloc0, params1, pass1, pass0}
 use types.SemTy.{Body}
 use sound.WpLaws.{FmC, fmOf, WpFn-mono}
 use denote.RattleType.{owns}
-use denote.Laws.{Is, shows}
-use denote.Memory.{mem, cellAt}
+use denote.Laws.{Is}
+use denote.Memory.{mem}
 use denote.Plain.{bool-vals, bool-tells}
 use denote.Array.{Array, arrayVal, array-makes, array-lawful}
 use denote.Builtin.{bool}
 use denote.Ref.{RefT, MutRef, ptr-vals, mut-tells}
 use denote.Signature.{plain}
-use denote.Steps.{opens, closes, owned, facts, nothing}
-use denote.Struct.Steps.{spelt}
+use denote.Steps.{owned, nothing}
 use denote.Struct.Laws as LL
 use denote.Triple.Statement.{Contract, Triple}
 use denote.Triple.Entry.{Vals, onEntry}
@@ -58,6 +57,7 @@ use Rattle.station.specs.declared.Station.{Station}
 use Rattle.station.proofs.Station as ST
 use Rattle.station.proofs.Station.Laws as ST′
 use Rattle.lent.specs.Lent.{SumsUp}
+use Rattle.lent.proofs.Borrowed.{opens-station, closes-station}
 use Rattle.lent.proofs.Item.{either-way}
 use Rattle.lent.proofs.Parts.{rowsVal, bookVal, stationVal, Whole, rows-of, book-of, entries-of, made-of}
 use Rattle.lent.proofs.Walk.{envOf, locals, free-all, keeps, local-of, sets, asks}
@@ -145,8 +145,7 @@ module _ {M : Type 1} (𝓤 : URA M) (H : Heap 𝓤) (A : Atoms 𝓤) (W : Given
       leaves : (st : Station) (v : Val) → Is ST.the-row st (v ∷ []) → SumsUp h c st
           → Sq W (‵ (fat fullShare ST′.mir b o v) ∷ ‵ (fobor κ q (Body (mem ST.the-row) b o γ)) ∷ ‵ (fobs γ (ST.the-row .coded .code h)) ∷ ‵ (fauth γ (ST.the-row .coded .code h)) ∷ locals 𝓤 H En []) (runs C Λ En body.t-3 (atRet En Post))
       leaves st v iv e =
-          use1 W (‵ (cellAt fullShare (ST.the-row .mir) (v ∷ []) b o)) (W .laws .at-raw fullShare ST′.mir b o v) $
-          owned ! ST.the-row (Is ST.the-row) (LL.makes ST.the-type ST′.the-plain 𝓤 H A) st _ iv $ move ! (1 ∷ 0 ∷ []) $ closes ! tt ST.the-row st (v ∷ []) b o $
+          closes-station ! tt st v b o iv $
           -- [obs; the borrow; the token; _5; …; _0; …]
           assigns ! (of-opd ! (unit-lit !)) (from ! (stop !)) (init ! 13 refl (tt, tt)) $ returns ! (look ! 13 refl) $ forget ! 13 refl $ free-all (Ends st) [] ! $ by ! (exits st e)
 
@@ -157,9 +156,7 @@ module _ {M : Type 1} (𝓤 : URA M) (H : Heap 𝓤) (A : Atoms 𝓤) (W : Given
         pass1 ! (init ! 8 refl (tt, tt)) $ pass1 ! (init ! 6 refl (tt, tt)) $ pass0 ! $
         -- [what the reference owns; the locals; the token and true]
         move ! (13 ∷ []) $ fsplit ! $ fsplit3 ! $ drop ! $ move ! (2 ∷ []) $ drop ! $ move ! (14 ∷ []) $ split ! $ move ! (1 ∷ []) $ drop ! $ move ! (1 ∷ 2 ∷ 0 ∷ []) $
-        opens ! tt ST.the-row {h = h} b o (λ vs. spelt ! ST.the-row (Is ST.the-row) (shows 𝓤 H A ST.the-row) (λ d. ST′.lowered d ∷ []) (ST′.lowers .val-is) fullShare h vs b o $
-        move ! (1 ∷ []) $ facts ! ST.the-row (Is ST.the-row) (shows 𝓤 H A ST.the-row) h (ST′.lowered h ∷ []) (λ ih.
-        use1 W (‵ (fat fullShare ST′.mir b o (stationVal (rowsVal (h .rows)) (bookVal (arrayVal us)) (SM′.lowered (h .summary))))) (W .laws .raw-at fullShare ST′.mir b o (ST′.lowered h)) $
+        opens-station ! tt h b o (λ ih.
         -- [the station's cell; the open borrow; obs; auth; _5; …; _0; …]: local i is at 14 - 2 · i
         sets ! (of-opd ! (local-of ! 10 refl refl)) 8 refl refl (tt, tt) $
         either-way ! (local-of ! 8 refl refl)
@@ -173,7 +170,7 @@ module _ {M : Type 1} (𝓤 : URA M) (H : Heap 𝓤) (A : Atoms 𝓤) (W : Given
         keeps (_ ∷ _ ∷ _ ∷ _ ∷ []) (En l₀ l₁ l₂ l₃ l₄ l₅) [] (none ∷ holding _ ∷ holding _ ∷ holding _ ∷ holding _ ∷ holding _ ∷ []) ! $
         leaves l₀ l₁ l₂ l₃ l₄ l₅ (left h z) _ (left-is z iz ih) (summed h z c ez t)))
         (λ f. keeps (_ ∷ _ ∷ _ ∷ _ ∷ []) (En l₀ l₁ l₂ l₃ l₄ l₅) [] (none ∷ holding _ ∷ holding _ ∷ holding _ ∷ []) ! $
-        leaves l₀ l₁ l₂ l₃ l₄ l₅ h _ ih (as-it-was h c f))))))))))
+        leaves l₀ l₁ l₂ l₃ l₄ l₅ h _ ih (as-it-was h c f)))))))))
 
 module _ {M : Type 1} (𝓤 : URA M) (H : Heap 𝓤) (A : Atoms 𝓤) (W : Given 𝓤 H A) (mem : Memory → SProp 𝓤) (run : Routine → Fun 𝓤) (𝓣 : Tables 𝓤 H) (known-walk : Triple 𝓤 (𝓣 .C #summary·walk-book) (Walk 𝓤 H A mem run)) where
   sum-walks : Walks 𝓤 H A sum.ended stayed (WpFn 𝓤 H (𝓣 .C) (𝓣 .Λ) code.function) (sum.clauses 𝓤 H A mem run)

@@ -21,22 +21,19 @@ use prog.Wp.{Heap, Calls, Loops, WpFn, Tables}
 use ghost.Atoms.{Atoms}
 use contract.Monad.{Fun}
 use contract.Running.{givenOf, tables, tablesOf}
-use types.Kit.{Given, Item, ‵, _⊛_, ⋆, _$_, _∵_, !, qed, by, move, drop, use1, split, join, rewrite, fsplit, fsplit3, fjoin, fjoin3, feqI, suffices, frame, done}
+use types.Kit.{Given, Item, ‵, _⊛_, ⋆, _$_, _∵_, !, qed, by, move, drop, split, join, rewrite, fsplit, fsplit3, fjoin, fjoin3, feqI, suffices, frame, done}
 use types.Part.{whole, sub, store-in}
 use types.Run.{look, init, lit, bin, un, returns-within, stop, hop, from, of-opd, and-then, no-more, assigns, land, returns, enter, alloc1, alloc0, params1, pass1, pass0}
 use sound.WpLaws.{FmC, fmOf, WpFn-mono}
 use denote.RattleType.{owns}
-use denote.Laws.{Is, shows}
-use denote.Memory.{cellAt}
+use denote.Laws.{Is}
 use denote.Index.{place-is}
 use denote.Plain.{uint-vals, uint-tells, uint-makes, uint-lawful}
 use denote.Array.{arrayVal}
 use denote.Builtin.{u8, u64}
 use denote.Ref.{RefT, MutRef, ptr-vals, mut-tells}
 use denote.Signature.{plain}
-use denote.Steps.{opens, closes, owned, facts, nothing}
-use denote.Struct.Steps.{spelt}
-use denote.Struct.Laws as LL
+use denote.Steps.{owned, nothing}
 use denote.Triple.Statement.{Contract, Triple}
 use denote.Triple.Entry.{Vals, onEntry}
 use denote.Triple.Spec.{Meets, tripleOf}
@@ -67,6 +64,7 @@ use Rattle.told.specs.Told.{packed}
 use Rattle.station.proofs.Station as ST
 use Rattle.station.proofs.Station.Laws as ST′
 use Rattle.lent.specs.Lent.{ResetsLent}
+use Rattle.lent.proofs.Borrowed.{opens-station, closes-station}
 use Rattle.lent.proofs.Gate.{shut-out, let-in, served, wide, in-bytes, GateNumber, to-gate, goes-gate}
 use Rattle.lent.proofs.Item.{map-set, either-way, low-item}
 use Rattle.lent.proofs.Parts.{rowBytes, rowsVal, stationVal, rows-of, row-typed, withRow, row-put}
@@ -145,9 +143,7 @@ module _ {M : Type 1} (𝓤 : URA M) (H : Heap 𝓤) (A : Atoms 𝓤) (W : Given
         (λ t. sets ! (of-opd ! (local-of ! 14 refl refl)) 22 refl refl (uint-lawful 𝓤 H A W w64 .typed z _ iz .0) $
         returns-within ! Post refl (look ! 22 refl) $ free-all (Ends h) (holding _ ∷ holding _ ∷ holding _ ∷ holding _ ∷ holding _ ∷ none ∷ holding _ ∷ []) ! $ by ! (exits h z _ (refused-lent h card c z ez t) iz))
         (λ no. let n = let-in card c z ez no in fsplit3 ! $ drop ! $
-        opens ! tt ST.the-row {h = h} b o (λ vs. spelt ! ST.the-row (Is ST.the-row) (shows 𝓤 H A ST.the-row) (λ d. ST′.lowered d ∷ []) (ST′.lowers .val-is) fullShare h vs b o $
-        move ! (1 ∷ []) $ facts ! ST.the-row (Is ST.the-row) (shows 𝓤 H A ST.the-row) h (ST′.lowered h ∷ []) (λ ih.
-        use1 W (‵ (fat fullShare ST′.mir b o (stationVal (rowsVal (h .rows)) (BK′.lowered (h .book)) (SM′.lowered (h .summary))))) (W .laws .raw-at fullShare ST′.mir b o (ST′.lowered h)) $
+        opens-station ! tt h b o (λ ih.
         -- [the station's cell; the open borrow; obs; auth; _10; …; _0; …]: local i is at 24 - 2 · i
         sets ! (un ! (local-of ! 18 refl refl) (record { fits = wide card c n })) 14 refl refl (tt, record { fits = wide card c n }) $
         asks ! fm (Empty 𝓤 H A at-mem run) known-empty to-empty goes-empty RW.the-row (λ d. RW′.lowered d) (RW′.lowers .val-is) (λ r. r ≡ emptyRow) _ (lasts empty′.ended tt tt) (λ u. id⊢ 𝓤 _)
@@ -159,12 +155,11 @@ module _ {M : Type 1} (𝓤 : URA M) (H : Heap 𝓤) (A : Atoms 𝓤) (W : Given
         rewrite ! 4 (λ (z : ℕ). ‵ (fat fullShare tyPtr l₁₀ 0 (vptr b z))) (sym (place-is rowBytes (o + 0) c)) refl $
         assigns ! (of-opd ! (local-of ! 10 refl refl)) (from ! (hop ! (look ! 4 refl) (stop !))) (store-in ! 0 (low-item ! RW.the-type RW′.lowers (h .rows) (rows-of h _ ih) c (served card c n) noRow (sub ! 0 refl (whole !))) (row-typed 𝓤 H A W r ir)) $
         rewrite ! 0 (λ (ws : List Val). ‵ (fat fullShare ST′.mir b o (stationVal (arrayVal ws) (BK′.lowered (h .book)) (SM′.lowered (h .summary))))) (map-set RW′.lowered (h .rows) c r) refl $
-        use1 W (‵ (cellAt fullShare (ST.the-row .mir) (stationVal (rowsVal (set (h .rows) c r)) (BK′.lowered (h .book)) (SM′.lowered (h .summary)) ∷ []) b o)) (W .laws .at-raw fullShare ST′.mir b o (stationVal (rowsVal (set (h .rows) c r)) (BK′.lowered (h .book)) (SM′.lowered (h .summary)))) $
-        owned ! ST.the-row (Is ST.the-row) (LL.makes ST.the-type ST′.the-plain 𝓤 H A) (withRow h c r) _ (row-put h c r ih ir) $ move ! (1 ∷ 0 ∷ []) $ closes ! tt ST.the-row (withRow h c r) (stationVal (rowsVal (set (h .rows) c r)) (BK′.lowered (h .book)) (SM′.lowered (h .summary)) ∷ []) b o $
+        closes-station ! tt (withRow h c r) (stationVal (rowsVal (set (h .rows) c r)) (BK′.lowered (h .book)) (SM′.lowered (h .summary))) b o (row-put h c r ih ir) $
         feqI ! (List Val) (vptr b o ∷ []) (vptr b o ∷ []) refl $ fjoin3 ! $
         -- [the reference; its token; _10; …; _0; …]
         sets ! (of-opd ! (lit ! tt)) 22 refl refl (tt, record { fits = lit< tt }) $ returns ! (look ! 22 refl) $
-        free-all (Ends (withRow h c r)) (holding _ ∷ holding _ ∷ holding _ ∷ holding _ ∷ holding _ ∷ holding _ ∷ holding _ ∷ holding _ ∷ holding _ ∷ holding _ ∷ holding _ ∷ []) ! $ by ! (exits (withRow h c r) 0 _ (emptied-lent h card c r n er) (refl, lit< tt))))))))))))))))))
+        free-all (Ends (withRow h c r)) (holding _ ∷ holding _ ∷ holding _ ∷ holding _ ∷ holding _ ∷ holding _ ∷ holding _ ∷ holding _ ∷ holding _ ∷ holding _ ∷ holding _ ∷ []) ! $ by ! (exits (withRow h c r) 0 _ (emptied-lent h card c r n er) (refl, lit< tt)))))))))))))))))
 
 module _ {M : Type 1} (𝓤 : URA M) (H : Heap 𝓤) (A : Atoms 𝓤) (W : Given 𝓤 H A) (mem : Memory → SProp 𝓤) (run : Routine → Fun 𝓤) (𝓣 : Tables 𝓤 H) (known-gate : Triple 𝓤 (𝓣 .C #station·gate-number) (GateNumber 𝓤 H A mem run)) (known-empty : Triple 𝓤 (𝓣 .C #channel·empty-row) (Empty 𝓤 H A mem run)) where
   lent-walks : Walks 𝓤 H A lent.ended stayed (WpFn 𝓤 H (𝓣 .C) (𝓣 .Λ) code.function) (lent.clauses 𝓤 H A mem run)

@@ -31,7 +31,7 @@ use denote.Plain.{uint-vals, uint-tells, uint-makes, uint-lawful}
 use denote.Builtin.{u8, i32, u64, usize}
 use denote.Ref.{RefT, ShrRef, ptr-vals, shr-tells}
 use denote.Slice.{sliceVal, MutSlice, Room, finally, slice-vals, mut-slice-tells}
-use denote.Signature.{Slot, plain, shrRefTo, mutSliceOf}
+use denote.Signature.{Slot, plain, shrRefTo}
 use denote.Steps.{owned, nothing}
 use denote.Struct.Laws as LL
 use denote.Triple.Statement.{Contract, Triple}
@@ -49,12 +49,12 @@ use Rattle.book.proofs.Entry.Laws as EN′
 use Rattle.station.specs.declared.Station.{Station}
 use Rattle.station.specs.Queries.{isEmpty}
 use Rattle.station.proofs.Station as ST
+use Rattle.lent.proofs.Borrowed.{refAt, lentAt, unspent}
 use Rattle.lent.proofs.Item.{either-way}
-use Rattle.lent.proofs.Walk.{free-all, local-of, sets, asks, field-of}
+use Rattle.lent.proofs.Walk.{free-all, local-of, sets, asks, asks-with, field-of}
 use Rattle.lent_queries.specs.Lent.{roomTest, entryAt, entryNumbers, slotTests, PutsEntry, TellsEntry}
 use Rattle.lent_queries.proofs.Said.{stopped, let-through}
 use Rattle.lent_queries.proofs.Slots.{slot-known}
-use Rattle.lent_queries.proofs.Looking.{refAt, lentAt, asks-with, unspent}
 use Rattle.lent_queries.proofs.telling.slot_number as gate′
 use Rattle.lent_queries.proofs.telling.slot_number.Symbol as gate-def
 use Rattle.lent_queries.proofs.telling.slot_number.Symbol.{name as #slot-number}

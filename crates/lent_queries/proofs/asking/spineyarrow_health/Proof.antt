@@ -3,7 +3,7 @@
 -- Assumes nothing.
 use mathlib.Core.Path.{_≡_, refl, sym, subst}
 use mathlib.Core.Bool.{true, not}
-use mathlib.Core.List.{List, [], _∷_}
+use mathlib.Core.List.{[], _∷_}
 use mathlib.Core.Option.{none, some as holding}
 use Prim.Native.Nat.{ℕ, _-_, _*_, _<_, _≤_, _^_}
 use native.Mathlib.Omega.{arith}
@@ -53,13 +53,13 @@ use Rattle.station.proofs.gate_number as gate′
 use Rattle.station.proofs.gate_number.Symbol as gate-def
 use Rattle.station.proofs.gate_number.Symbol.{name as #gate-number}
 use Rattle.station.proofs.gate_number.Met as gate-thm
+use Rattle.lent.proofs.Borrowed.{refAt, lentAt}
 use Rattle.lent.proofs.Gate.{let-in, served, wide, GateNumber, to-gate, goes-gate}
 use Rattle.lent.proofs.Item.{either-way}
-use Rattle.lent.proofs.Walk.{free-all, local-of, sets, asks}
+use Rattle.lent.proofs.Walk.{free-all, local-of, sets, asks, asks-with}
 use Rattle.lent_queries.specs.Lent.{entryAt, TellsHealth}
 use Rattle.lent_queries.specs.Health.{slotOf, healthAt}
 use Rattle.lent_queries.proofs.Healths.{health-shut, health-none, health-some}
-use Rattle.lent_queries.proofs.Looking.{refAt, lentAt, asks-with}
 use Rattle.lent_queries.proofs.copying.row_in as row′
 use Rattle.lent_queries.proofs.copying.row_in.Symbol as row-def
 use Rattle.lent_queries.proofs.copying.row_in.Symbol.{name as #row-in}

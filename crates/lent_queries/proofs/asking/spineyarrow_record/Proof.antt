@@ -30,7 +30,7 @@ use denote.Plain.{uint-vals, uint-tells, uint-makes, uint-lawful}
 use denote.Builtin.{u8, u32, i32, u64, usize}
 use denote.Ref.{RefT, ShrRef, MutRef, ptr-vals, shr-tells, mut-tells}
 use denote.Slice.{sliceVal, MutSlice, Room, finally, slice-vals, mut-slice-tells}
-use denote.Signature.{Slot, plain, shrRefTo, mutSliceOf}
+use denote.Signature.{Slot, plain, shrRefTo}
 use denote.Steps.{owned, nothing}
 use denote.Struct.Laws as LL
 use denote.Triple.Statement.{Contract, Triple}
@@ -52,13 +52,13 @@ use Rattle.station.proofs.gate_number as gate′
 use Rattle.station.proofs.gate_number.Symbol as gate-def
 use Rattle.station.proofs.gate_number.Symbol.{name as #gate-number}
 use Rattle.station.proofs.gate_number.Met as gate-thm
+use Rattle.lent.proofs.Borrowed.{refAt, lentAt, unspent, unspent-ref}
 use Rattle.lent.proofs.Gate.{let-in, served, wide, GateNumber, to-gate, goes-gate}
 use Rattle.lent.proofs.Item.{either-way}
-use Rattle.lent.proofs.Walk.{free-all, local-of, sets, asks, addr-of, field-of}
+use Rattle.lent.proofs.Walk.{free-all, local-of, sets, asks, addr-of, field-of, asks-with}
 use Rattle.words.specs.Immediate.{immediateOf}
 use Rattle.lent_queries.specs.Lent.{wordsList, keptTests, PutsRecord, TellsRecord}
 use Rattle.lent_queries.proofs.Said.{stopped, let-through}
-use Rattle.lent_queries.proofs.Looking.{refAt, lentAt, asks-with, unspent, unspent-ref}
 use Rattle.lent_queries.proofs.copying.row_in as part′
 use Rattle.lent_queries.proofs.copying.row_in.Symbol as part-def
 use Rattle.lent_queries.proofs.copying.row_in.Symbol.{name as #row-in}

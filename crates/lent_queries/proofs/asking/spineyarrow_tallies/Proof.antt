@@ -29,7 +29,7 @@ use denote.Plain.{uint-vals, uint-tells, uint-makes, uint-lawful}
 use denote.Builtin.{u8, u32, u64, usize}
 use denote.Ref.{RefT, ShrRef, ptr-vals, shr-tells}
 use denote.Slice.{sliceVal, MutSlice, Room, finally, slice-vals, mut-slice-tells}
-use denote.Signature.{Slot, plain, shrRefTo, mutSliceOf}
+use denote.Signature.{Slot, plain, shrRefTo}
 use denote.Steps.{owned, nothing}
 use denote.Struct.Laws as LL
 use denote.Triple.Statement.{Contract, Triple}
@@ -51,12 +51,12 @@ use Rattle.station.proofs.gate_number as gate′
 use Rattle.station.proofs.gate_number.Symbol as gate-def
 use Rattle.station.proofs.gate_number.Symbol.{name as #gate-number}
 use Rattle.station.proofs.gate_number.Met as gate-thm
+use Rattle.lent.proofs.Borrowed.{refAt, lentAt, unspent}
 use Rattle.lent.proofs.Gate.{let-in, served, wide, GateNumber, to-gate, goes-gate}
 use Rattle.lent.proofs.Item.{either-way}
-use Rattle.lent.proofs.Walk.{free-all, local-of, sets, asks, field-of}
+use Rattle.lent.proofs.Walk.{free-all, local-of, sets, asks, asks-with, field-of}
 use Rattle.lent_queries.specs.Lent.{roomTest, PutsOut, TellsTallies}
 use Rattle.lent_queries.proofs.Said.{stopped, let-through}
-use Rattle.lent_queries.proofs.Looking.{refAt, lentAt, asks-with, unspent}
 use Rattle.lent_queries.proofs.copying.row_in as part′
 use Rattle.lent_queries.proofs.copying.row_in.Symbol as part-def
 use Rattle.lent_queries.proofs.copying.row_in.Symbol.{name as #row-in}

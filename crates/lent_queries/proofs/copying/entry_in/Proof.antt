@@ -1,7 +1,7 @@
 -- `copying::entry_in` meets its contract: a walk of its MIR, by hand. The borrow of the station is looked into, an entry of its book copied, and the borrow is shut.
 -- Assumes nothing.
 use mathlib.Core.Path.{refl, sym}
-use mathlib.Core.List.{List, [], _∷_}
+use mathlib.Core.List.{[], _∷_}
 use mathlib.Core.Option.{some as holding}
 use Prim.Native.Nat.{ℕ, _+_, _*_, _<_, _^_}
 use native.Mathlib.Omega.{arith}
@@ -19,7 +19,7 @@ use prog.Wp.{Heap, Calls, Loops, WpFn, Tables}
 use ghost.Atoms.{Atoms}
 use contract.Monad.{Fun}
 use contract.Running.{givenOf, tables, tablesOf}
-use types.Kit.{Given, Item, ‵, _⊛_, ⋆, _$_, _∵_, !, qed, by, move, drop, split, join, rewrite, fsplit, fjoin, suffices, frame, done}
+use types.Kit.{Given, ‵, _⊛_, ⋆, _$_, _∵_, !, qed, by, move, drop, split, join, rewrite, fsplit, fjoin, suffices, frame, done}
 use types.Part.{whole, sub, look-in}
 use types.Run.{look, init, lit, bin, addr, fld, hop, stop, from, load, of-opd, returns, enter, alloc1, alloc0, params1, pass1, pass0}
 use sound.WpLaws.{WpFn-mono}
@@ -45,10 +45,10 @@ use Rattle.book.proofs.Entry.Laws as EN′
 use Rattle.station.specs.declared.Station.{Station}
 use Rattle.station.proofs.Station as ST
 use Rattle.lent_queries.specs.Lent.{entryAt}
+use Rattle.lent.proofs.Borrowed.{refAt, looks-station, shuts-station}
 use Rattle.lent.proofs.Item.{low-is, low-typed, low-item}
 use Rattle.lent.proofs.Parts.{entryBytes, bookAt, entries-of}
 use Rattle.lent.proofs.Walk.{free-all, local-of, sets}
-use Rattle.lent_queries.proofs.Looking.{refAt, looks-in, shuts-in}
 use Rattle.lent_queries.proofs.copying.entry_in.Key.{name as #lent-queries·entry-in}
 use Rattle.lent_queries.proofs.copying.entry_in as leaf
 use Rattle.lent_queries.proofs.copying.entry_in.Statement as stated
@@ -94,7 +94,7 @@ module _ {M : Type 1} (𝓤 : URA M) (H : Heap 𝓤) (A : Atoms 𝓤) (W : Given
         alloc1 ! (λ l₀. alloc1 ! (λ l₁. alloc1 ! (λ l₂. alloc1 ! (λ l₃. alloc1 ! (λ l₄. alloc1 ! (λ l₅. alloc1 ! (λ l₆. alloc0 ! $ params1 ! $ pass1 ! (init ! 10 refl (tt, tt)) $ pass1 ! (init ! 8 refl (tt, record { fits = gi })) $ pass0 ! $
         move ! (15 ∷ []) $ fsplit ! $ move ! (1 ∷ []) $ drop ! $ move ! (15 ∷ []) $ split ! $ move ! (1 ∷ []) $ drop ! $ move ! (1 ∷ 0 ∷ []) $
         -- [what the reference owns; the token; _6; …; room for _0; …]
-        looks-in ! tt b o γ h (λ q′ ih.
+        looks-station ! tt h b o γ (λ q′ ih.
         -- [a share of the station's cell; what shuts it; _6; …; room for _0; …]: local i is at 14 - 2 · i
         sets ! (bin ! (local-of ! 10 refl refl) (lit ! tt) (record { fits = in-bytes l })) 8 refl refl (tt, record { fits = in-bytes l }) $
         sets ! (addr ! (from ! (hop ! (look ! 12 refl) (fld ! refl (fld ! refl (stop !)))))) 6 refl refl (tt, tt) $
@@ -103,7 +103,7 @@ module _ {M : Type 1} (𝓤 : URA M) (H : Heap 𝓤) (A : Atoms 𝓤) (W : Given
         sets ! (of-opd ! (load ! (from ! (hop ! (look ! 4 refl) (stop !))) (look-in ! 0 (low-item ! EN.the-type EN′.lowers (h .book .entries) (entries-of h _ ih) i l blank (sub ! 0 refl (sub ! 1 refl (whole !))))))) 2 refl refl (low-typed EN.the-type EN′.lowers slots (h .book .entries) (entries-of h _ ih) i l blank EN′.mir typed) $
         rewrite ! 2 (λ (w : Val). ‵ (fat fullShare EN′.mir l₆ 0 w)) (List·getD-map EN′.lowered (h .book .entries) i blank) refl $
         sets ! (of-opd ! (local-of ! 2 refl refl)) 14 refl refl (typed it (low-is EN.the-type EN′.lowers slots (h .book .entries) (entries-of h _ ih) i l blank)) $
-        shuts-in ! tt q′ b o h ih $
+        shuts-station ! tt q′ h b o ih $
         returns ! (look ! 13 refl) $ free-all (‵ (flft κ q) ∷ []) (holding _ ∷ holding _ ∷ holding _ ∷ holding _ ∷ holding _ ∷ holding _ ∷ holding _ ∷ []) ! $
         by ! (exits (low-is EN.the-type EN′.lowers slots (h .book .entries) (entries-of h _ ih) i l blank))))))))))
 

@@ -1,7 +1,7 @@
 -- `copying::summary_in` meets its contract: a walk of its MIR, by hand. The borrow of the station is looked into, its summary copied, and the borrow is shut.
 -- Assumes nothing.
 use mathlib.Core.Path.{refl}
-use mathlib.Core.List.{List, [], _∷_}
+use mathlib.Core.List.{[], _∷_}
 use mathlib.Core.Option.{some as holding}
 use Prim.Native.Nat.{ℕ}
 use lib.Dec.{T}
@@ -16,7 +16,7 @@ use prog.Wp.{Heap, Calls, Loops, WpFn, Tables}
 use ghost.Atoms.{Atoms}
 use contract.Monad.{Fun}
 use contract.Running.{givenOf, tables, tablesOf}
-use types.Kit.{Given, Item, ‵, _⊛_, ⋆, _$_, _∵_, !, qed, by, move, drop, split, join, fsplit, fjoin, suffices, frame, done}
+use types.Kit.{Given, ‵, _⊛_, ⋆, _$_, _∵_, !, qed, by, move, drop, split, join, fsplit, fjoin, suffices, frame, done}
 use types.Part.{whole, sub, look-in}
 use types.Run.{look, init, hop, fld, stop, from, load, of-opd, returns, enter, alloc1, alloc0, params1, pass1, pass0}
 use sound.WpLaws.{WpFn-mono}
@@ -35,9 +35,9 @@ use Rattle.summary.proofs.Summary as SM
 use Rattle.summary.proofs.Summary.Laws as SM′
 use Rattle.station.specs.declared.Station.{Station}
 use Rattle.station.proofs.Station as ST
-use Rattle.lent.proofs.Parts.{Whole, summary-of}
+use Rattle.lent.proofs.Borrowed.{refAt, looks-station, shuts-station}
+use Rattle.lent.proofs.Parts.{summary-of}
 use Rattle.lent.proofs.Walk.{free-all, sets}
-use Rattle.lent_queries.proofs.Looking.{refAt, looks-in, shuts-in}
 use Rattle.lent_queries.proofs.copying.summary_in.Key.{name as #lent-queries·summary-in}
 use Rattle.lent_queries.proofs.copying.summary_in as leaf
 use Rattle.lent_queries.proofs.copying.summary_in.Statement as stated
@@ -76,10 +76,10 @@ module _ {M : Type 1} (𝓤 : URA M) (H : Heap 𝓤) (A : Atoms 𝓤) (W : Given
         alloc1 ! (λ l₀. alloc1 ! (λ l₁. alloc0 ! $ params1 ! $ pass1 ! (init ! 0 refl (tt, tt)) $ pass0 ! $
         move ! (5 ∷ []) $ fsplit ! $ move ! (1 ∷ []) $ drop ! $ move ! (5 ∷ []) $ split ! $ move ! (1 ∷ []) $ drop ! $ move ! (1 ∷ 0 ∷ []) $
         -- [what the reference owns; the token; _1; …; room for _0; …]
-        looks-in ! tt b o γ h (λ q′ ih.
+        looks-station ! tt h b o γ (λ q′ ih.
         -- [a share of the station's cell; what shuts it; _1; …; room for _0; …]
         sets ! (of-opd ! (load ! (from ! (hop ! (look ! 2 refl) (fld ! refl (stop !)))) (look-in ! 0 (sub ! 2 refl (whole !))))) 4 refl refl (typed (summary-of h _ ih)) $
-        shuts-in ! tt q′ b o h ih $
+        shuts-station ! tt q′ h b o ih $
         returns ! (look ! 3 refl) $ free-all (‵ (flft κ q) ∷ []) (holding _ ∷ holding _ ∷ []) ! $ by ! (exits (summary-of h _ ih)))))
 
 module _ {M : Type 1} (𝓤 : URA M) (H : Heap 𝓤) (A : Atoms 𝓤) (W : Given 𝓤 H A) (mem : Memory → SProp 𝓤) (run : Routine → Fun 𝓤) (𝓣 : Tables 𝓤 H) where
