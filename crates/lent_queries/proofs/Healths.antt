@@ -5,7 +5,7 @@
 use mathlib.Core.Path.{_≡_, refl, sym, ap, _∙_}
 use mathlib.Core.List.{List, [], _∷_}
 use mathlib.Core.Bool.{Bool, true, false, not, _&&_}
-use Prim.Native.Nat.{ℕ, _-_, _*_, _^_, _≤_, _<_}
+use Prim.Native.Nat.{ℕ, _-_, _*_, _≤_}
 use native.Mathlib.Omega.{arith}
 use borrow.Author.Tests.{leb-true, le-leb}
 use lib.Dec.{T, eqb, leb, ltb}
@@ -25,9 +25,9 @@ use Rattle.lent.proofs.Gate.{shut-out}
 use Rattle.told.specs.Told.{packed}
 use Rattle.lent_queries.specs.Lent.{entryAt, TellsHealth}
 use Rattle.station.specs.declared.Health.{Health}
-use Rattle.station.specs.declared.Health.the-variants.{Unknown, Usable, NotUsable}
+use Rattle.station.specs.declared.Health.the-variants.{Unknown}
 use Rattle.station.specs.Queries.{topOfB, satelliteOf, lOf, modelOf, lCounted, statusOf, judged, isEmpty, keptAt, healthBy, healthNumber}
-use Rattle.lent_queries.specs.Health.{slotOf, healthAt, judgedNumber}
+use Rattle.lent_queries.specs.Health.{slotOf, healthAt}
 
 pub no-slot : (i : Immediate) (b : Book) → slotOf i ≡ 0 → healthBy i b ≡ Unknown
 unfolding slotOf healthBy
@@ -57,15 +57,6 @@ by-slot i b e f q =
     let q′ : e ≡ inSlot b (satelliteOf i) = q ∙ ap (inSlot b) n in
     let one : 1 ≤ satelliteOf i = omega (arith, f, n) in
     rw (p .0, p .1 .0, le-leb 1 (satelliteOf i) one, ← q′) (swapped (eqb (e .day) 0) (judged (topOfB i) (lCounted (modelOf i) (lOf i)) (statusOf (meaning e))) Unknown)
-
--- a health's number is at most 2
-number-below : (h : Health) → healthNumber h ≤ 2
-number-below Unknown = omega arith
-number-below Usable = omega arith
-number-below NotUsable = omega arith
-
-pub judged-small : (b l c r : ℕ) → r ≡ judgedNumber b l c → 256 * r < 2 ^ 64
-judged-small b l c r e = omega (arith, e, number-below (judged b l c))
 
 -- ---- what a call is told
 module _ (st : Station) (card c : ℕ) where

@@ -10,7 +10,7 @@ use Rattle.immediate.specs.declared.Immediate.{Immediate}
 use Rattle.immediate.specs.Kept.{hasRecord}
 use Rattle.station.specs.declared.Health.{Health}
 use Rattle.station.specs.declared.Health.the-variants.{Unknown}
-use Rattle.station.specs.Queries.{topOfB, satelliteOf, lOf, modelOf, lCounted, statusOf, judged, healthNumber}
+use Rattle.station.specs.Queries.{topOfB, satelliteOf, lOf, modelOf, lCounted, statusOf, judged}
 
 -- the slot of a record's n; 0 where there is no record, or n is no slot
 unfoldable pub slotOf : Immediate → ℕ
@@ -19,7 +19,3 @@ slotOf i = pick (hasRecord i && leb (satelliteOf i) slots) (satelliteOf i) 0
 -- the health where the record's slot has the entry e
 unfoldable pub healthAt : Immediate → Entry → Health
 healthAt i e = pick (eqb (e .day) 0) Unknown (judged (topOfB i) (lCounted (modelOf i) (lOf i)) (statusOf (meaning e)))
-
--- in numbers
-abbrev pub judgedNumber : ℕ → ℕ → ℕ → ℕ
-judgedNumber b l c = healthNumber (judged b l c)

@@ -5,36 +5,36 @@ use book::LAST_SLOT;
 use book::even_words;
 use book::odd_words;
 use channel::Row;
-use immediate::Immediate;
 use immediate::has_record;
 use records::EvenString;
 use records::ImmediateWords;
 use records::OddString;
+use station::health_number;
+use station::is_card;
+use station::judge;
+use station::l_counted;
 use summary::Summary;
 use words::immediate_words;
 use words::word_in;
 ghost use mathlib.Core.Path.{_≡_};
-ghost use Prim.Native.Nat.{_*_, _/_, _%_, _≤_};
+ghost use Prim.Native.Nat.{_*_, _≤_};
 ghost use lib.ListN.{length};
 ghost use Rattle.strings.specs.Numbers.{firstOf};
 ghost use Rattle.book.specs.Book.{slots};
 ghost use Rattle.station.specs.Station.{cardTest};
-ghost use Rattle.station.specs.Queries.{summaryNumbers, allCounts, healthNumber, lOf, modelOf, lCounted};
+ghost use Rattle.station.specs.Queries.{summaryNumbers, allCounts, healthNumber};
 ghost use mathlib.Core.List.{[], _∷_};
 ghost use Rattle.lent_queries.specs.Lent.{slotTests, PutsOut, entryList, PutsEntry, wordsList, PutsRecord};
-ghost use Rattle.lent_queries.specs.Health.{slotOf, healthAt, judgedNumber};
+ghost use Rattle.lent_queries.specs.Health.{slotOf, healthAt};
 
 // Whether a number is a card's: 0, or 16 CARD.
 pub fn card_number(card: u8) -> u64
     ensures { λ r. ⌜ r ≡ firstOf (cardTest card ∷ []) ⌝ }
 {
-    if card == 1 {
-        return 0;
+    if !is_card(card) {
+        return 16;
     }
-    if card == 2 {
-        return 0;
-    }
-    16
+    0
 }
 
 // Whether a call on a slot is let in: 0, or 16 CARD, 14 SLOT.
@@ -244,32 +244,5 @@ pub fn health_told(row: Row, e: Entry) -> u64
     let s = kept.strings;
     let bad = word_in(&s[11..22], 80, 80);
     let l = l_counted(kept);
-    256 * judge(bad, l, e.etop)
-}
-
-// l of a record, where it counts: bit 65 of string 3, which is a reserved bit where M is 00.
-fn l_counted(kept: Immediate) -> u32
-    ensures { λ r. ⌜ r ≡ lCounted (modelOf kept) (lOf kept) ⌝ }
-{
-    let s = kept.strings;
-    let bit65 = word_in(&s[22..33], 65, 65);
-    let model = word_in(&s[33..44], 10, 9);
-    if model == 0 {
-        return 0;
-    }
-    bit65
-}
-
-// By the top bit of B, by l, and by C, the top bit of the entry's even half: 1 usable, 2 not usable.
-fn judge(bad: u32, l: u32, etop: u8) -> u64
-    ensures { λ r. ⌜ r ≡ judgedNumber bad l (etop / 128 % 2) ⌝ }
-{
-    if bad == 0 {
-        if l == 0 {
-            if 128 <= etop {
-                return 1;
-            }
-        }
-    }
-    2
+    256 * (health_number(judge(bad, l, e.etop)) as u64)
 }

@@ -16,11 +16,11 @@ use records::ImmediateWords;
 use records::Record;
 use relative::polarity_number;
 use station::EntryFound;
-use station::Health;
 use station::HealthFound;
 use station::RecordFound;
 use station::SummaryFound;
 use station::TalliesFound;
+use station::health_number;
 use strings::Written;
 use summary::Summary;
 use tallies::Causes;
@@ -207,13 +207,5 @@ pub(crate) fn say_health(text: &mut Text, f: HealthFound) -> usize
             let ok = say_ok(text);
             put_next(text, ok, health_number(h) as u64)
         }
-    }
-}
-
-fn health_number(h: Health) -> u8 {
-    match h {
-        Health::Unknown => 0,
-        Health::Usable => 1,
-        Health::NotUsable => 2,
     }
 }

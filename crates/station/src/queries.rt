@@ -19,7 +19,7 @@ use words::immediate_words;
 use words::word_in;
 ghost use mathlib.Core.Path.{_≡_};
 ghost use Prim.Native.Nat.{_/_, _%_};
-ghost use Rattle.station.specs.Queries.{FindsRecord, FindsEntry, FindsTallies, FindsSummary, FindsHealth, healthBy, lOf, modelOf, lCounted, judged};
+ghost use Rattle.station.specs.Queries.{FindsRecord, FindsEntry, FindsTallies, FindsSummary, FindsHealth, healthBy, lOf, modelOf, lCounted, judged, healthNumber};
 
 // The words of a channel's immediate record, and the start of the frame that it was read from.
 pub fn immediate_of(st: Station, card: u8, channel: u8) -> RecordFound
@@ -128,7 +128,7 @@ fn health_by(kept: Immediate, b: Book) -> Health
 }
 
 // l of a record, where it counts: bit 65 of string 3, which is a reserved bit where M is 00.
-fn l_counted(kept: Immediate) -> u32
+pub fn l_counted(kept: Immediate) -> u32
     ensures { λ r. ⌜ r ≡ lCounted (modelOf kept) (lOf kept) ⌝ }
 {
     let s = kept.strings;
@@ -141,7 +141,7 @@ fn l_counted(kept: Immediate) -> u32
 }
 
 // By the top bit of B, by l, and by C, the top bit of the entry's even half.
-fn judge(bad: u32, l: u32, etop: u8) -> Health
+pub fn judge(bad: u32, l: u32, etop: u8) -> Health
     ensures { λ r. ⌜ r ≡ judged bad l (etop / 128 % 2) ⌝ }
 {
     if bad == 0 {
@@ -152,4 +152,15 @@ fn judge(bad: u32, l: u32, etop: u8) -> Health
         }
     }
     Health::NotUsable
+}
+
+// In one number: 0 unknown, 1 usable, 2 not usable.
+pub fn health_number(h: Health) -> u8
+    ensures { λ r. ⌜ r ≡ healthNumber h ⌝ }
+{
+    match h {
+        Health::Unknown => 0,
+        Health::Usable => 1,
+        Health::NotUsable => 2,
+    }
 }

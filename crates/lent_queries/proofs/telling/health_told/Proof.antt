@@ -6,7 +6,6 @@ use lib.ListN.{length}
 use borrow.Author.Needs.{needs}
 use Rattle.station.proofs.Status.{status-is}
 use Rattle.lent_queries.specs.Health.{healthAt}
-use Rattle.lent_queries.proofs.Healths.{judged-small}
 use Rattle.lent_queries.proofs.telling.health_told.Statement.{statement}
 use Rattle.lent_queries.proofs.telling.health_told.Tie as tie
 
@@ -34,18 +33,26 @@ l-counted-requires c κs = search needs
 judge-requires : tie.Need-judge-requires
 judge-requires c κs = search needs
 
+health-number-requires : tie.Need-health-number-requires
+health-number-requires c κs = search needs
+
+cast-result : tie.Need-cast-result
+cast-result c = search needs
+
 mul-result : tie.Need-mul-result
-mul-result c = record { fits = judged-small _ _ _ _ (c .judge .ensures) }
+mul-result c = search needs
 
 returns-2 : tie.Need-returns-2
 unfolding healthAt
 returns-2 c =
-    let l = c .before in
+    let j = c .before in
+    let l = j .before in
     let w = l .before in
     let f = w .before .before .before .before .before in
     let a = f .before .before .args in
     rw (
-      c .judge .ensures,
+      c .health-number .ensures,
+      j .judge .ensures,
       ← l .l-counted .ensures,
       w .word-in .ensures,
       ne-eqb (a .e .day) 0 (f .if1 .left),
@@ -54,4 +61,4 @@ returns-2 c =
 
 pub health-told-spec : {M : Type 1} → statement M
 health-told-spec =
-    tie.close (tie.spec returns sub-word-in part-word-in-start part-word-in-end word-in-requires l-counted-requires judge-requires mul-result returns-2)
+    tie.close (tie.spec returns sub-word-in part-word-in-start part-word-in-end word-in-requires l-counted-requires judge-requires health-number-requires cast-result mul-result returns-2)
