@@ -1,4 +1,4 @@
--- A station, its book, their parts and the summary as machine values: what the walks over a lent station use. Assumes nothing; `row-typed` assumes `Given`.
+-- A station, its book, their parts and the summary as machine values: what the walks over a lent station use. Assumes nothing; `row-typed` and the two beside it assume `Given`.
 use mathlib.Core.Path.{_≡_, refl, _∙_}
 use mathlib.Core.List.{List, [], _∷_, map}
 use Prim.Native.Nat.{ℕ, _*_}
@@ -76,10 +76,18 @@ pub made-of : (rs : List Row) (b : Book) (s : Summary) → (length rs ≡ channe
 made-of rs b s p r q =
     ((rowsVal rs ∷ [], (BK′.lowered b ∷ [], (SM′.lowered s ∷ [], tt))), (refl, (in-field RW.the-type RW′.lowers channels rs (p .0) (p .1), (r, (q, tt)))))
 
--- ---- a row: its typing, and put in a station's row c
-pub row-typed : {M : Type 1} (𝓤 : URA M) (H : Heap 𝓤) (A : Atoms 𝓤) (W : Given 𝓤 H A) (r : Row) → Is RW.the-row r (RW′.lowered r ∷ []) → T (hasTy RW′.mir (RW′.lowered r)) × WT (RW′.lowered r)
-row-typed 𝓤 H A W r p = LL.lawful RW.the-type RW′.the-laws 𝓤 H A W .typed r _ p .0
+-- ---- the typing of a row, of an entry and of a summary
+module _ {M : Type 1} (𝓤 : URA M) (H : Heap 𝓤) (A : Atoms 𝓤) (W : Given 𝓤 H A) where
+  pub row-typed : (r : Row) → Is RW.the-row r (RW′.lowered r ∷ []) → T (hasTy RW′.mir (RW′.lowered r)) × WT (RW′.lowered r)
+  row-typed r p = LL.lawful RW.the-type RW′.the-laws 𝓤 H A W .typed r _ p .0
 
+  pub entry-typed : (e : Entry) → Is EN.the-row e (EN′.lowered e ∷ []) → T (hasTy EN′.mir (EN′.lowered e)) × WT (EN′.lowered e)
+  entry-typed e p = LL.lawful EN.the-type EN′.the-laws 𝓤 H A W .typed e _ p .0
+
+  pub summary-typed : (s : Summary) → Is SM.the-row s (SM′.lowered s ∷ []) → T (hasTy SM′.mir (SM′.lowered s)) × WT (SM′.lowered s)
+  summary-typed s p = LL.lawful SM.the-type SM′.the-laws 𝓤 H A W .typed s _ p .0
+
+-- ---- a row put in a station's row c
 abbrev pub withRow : Station → ℕ → Row → Station
 withRow st c r = record { rows = set (st .rows) c r; book = st .book; summary = st .summary }
 

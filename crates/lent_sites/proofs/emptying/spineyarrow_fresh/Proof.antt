@@ -70,7 +70,7 @@ use Rattle.station.proofs.Station as ST
 use Rattle.station.proofs.Station.Laws as ST′
 use Rattle.lent.proofs.Borrowed.{opens-station, closes-station}
 use Rattle.lent.proofs.Item.{map-set, Lows, lows-set, low-item}
-use Rattle.lent.proofs.Parts.{rowBytes, rowsVal, stationVal, rows-of, made-of, row-typed}
+use Rattle.lent.proofs.Parts.{rowBytes, rowsVal, stationVal, rows-of, made-of, row-typed, summary-typed}
 use Rattle.lent.proofs.Walk.{envOf, locals, free-all, keeps, local-of, sets, asks, addr-field}
 use Rattle.lent_sites.specs.Lent.{FreshLent}
 use Rattle.lent_sites.proofs.Loops.{Emptied, emptied-none, emptied-more, emptied-all, noSummary}
@@ -134,9 +134,6 @@ module _ {M : Type 1} (𝓤 : URA M) (H : Heap 𝓤) (A : Atoms 𝓤) (W : Given
 
   no-summary : Is SM.the-row noSummary (SM′.lowered noSummary ∷ [])
   no-summary = ((vint w64 0 ∷ [], (vint w16 0 ∷ [], (vint w16 0 ∷ [], tt))), (refl, ((refl, lit< tt), ((refl, lit< tt), ((refl, lit< tt), tt)))))
-
-  summary-typed : T (hasTy SM′.mir (SM′.lowered noSummary)) × WT (SM′.lowered noSummary)
-  summary-typed = LL.lawful SM.the-type SM′.the-laws 𝓤 H A W .typed noSummary _ no-summary .0
 
   -- the station's machine value with other rows
   abbrev withRows : List Row → Val
@@ -217,7 +214,7 @@ module _ {M : Type 1} (𝓤 : URA M) (H : Heap 𝓤) (A : Atoms 𝓤) (W : Given
           (λ P. no-more !) (λ y ey iy.
           land ! (from ! (stop !)) (init ! 4 refl (book-typed y iy)) $
           assigns ! (of-opd ! (local-of ! 4 refl refl)) (from ! (hop ! (look ! 18 refl) (fld ! refl (stop !)))) (store-in ! 0 (sub ! 1 refl (whole !)) (book-typed y iy)) $
-          assigns ! (agg ! (and-then ! (lit ! tt) (and-then ! (lit ! tt) (and-then ! (lit ! tt) (no-more !))))) (from ! (hop ! (look ! 18 refl) (fld ! refl (stop !)))) (store-in ! 0 (sub ! 2 refl (whole !)) summary-typed) $
+          assigns ! (agg ! (and-then ! (lit ! tt) (and-then ! (lit ! tt) (and-then ! (lit ! tt) (no-more !))))) (from ! (hop ! (look ! 18 refl) (fld ! refl (stop !)))) (store-in ! 0 (sub ! 2 refl (whole !)) (summary-typed 𝓤 H A W noSummary no-summary)) $
           closes-station ! tt (emptied y) (left y) b o (made-of (t .rs) y noSummary (t .so-far .long, t .lows) iy no-summary) $
           -- [obs; the borrow; the token; _8; …; _0; …]
           sets ! (of-opd ! (unit-lit !)) 19 refl refl (tt, tt) $ returns ! (look ! 19 refl) $
