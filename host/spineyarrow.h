@@ -62,6 +62,7 @@ enum spineyarrow_no {
     SPINEYARROW_NO_SLOT = 14,
     SPINEYARROW_NO_OWNER = 15,
     SPINEYARROW_NO_CARD = 16,
+    SPINEYARROW_NO_LINES = 17,
     SPINEYARROW_NO_DAMAGED_UNPLACED = 31,
     SPINEYARROW_NO_DAMAGED_EVEN = 32,
     SPINEYARROW_NO_DAMAGED_OUTSIDE = 33,
@@ -264,6 +265,14 @@ uint64_t spineyarrow_join(void *station, const uint8_t *book, uint64_t book_leng
 
 /* Writes the book's 480 bytes. A room that is not of that many bytes is told 12 ROOM, and stays as it was. */
 uint64_t spineyarrow_book(const void *station, uint8_t *out, uint64_t out_room);
+
+/* ==== liblent_navigation.a (rt staticlib lent_navigation): the navigation record of a satellite that such a station hears */
+
+/* The RINEX navigation record of a channel's satellite, into 320 bytes: four lines of 79 columns and a line
+   feed. In the next byte n, the satellite; the text has the epoch. Or 16 CARD, 1 CHANNEL, 15 OWNER, 13
+   NOTHING where the record, string 5 of its frame or the satellite's entry is missing, 10 RANGE with the
+   place of NT or N4 in the next byte, 17 LINES. */
+uint64_t spineyarrow_navigation(const void *station, uint8_t card, uint8_t channel, uint8_t *out, uint64_t out_room);
 
 #ifdef __cplusplus
 }

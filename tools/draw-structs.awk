@@ -25,9 +25,9 @@ function worth(s,    n, list, i, product) {
 
 # OffBeat is OFF_BEAT
 function in_capitals(s) { gsub(/[A-Z]/, "_&", s); return toupper(substr(s, 2)) }
-/^        (Refusal|Damage|Why)::[A-Za-z(_)]+ => [0-9]+,/ {
+/^        (Refusal|Damage|Why|Answer)::[A-Za-z(_)]+ => [0-9]+,/ {
     word = $1; sub(/^.*::/, "", word); sub(/\(.*/, "", word)
-    numbers = numbers (numbers == "" ? "" : ",\n") sprintf("    SPINEYARROW_NO_%s = %d", ($1 ~ /^Damage/ ? "DAMAGED_" : "") in_capitals(word), $3)
+    no[$3 + 0] = ($1 ~ /^Damage/ ? "DAMAGED_" : "") in_capitals(word)
     next
 }
 
@@ -70,6 +70,7 @@ function emit(name,    i, t, f, n, at, widest, body, asserts) {
 
 END {
     if (failed) exit 1
+    for (k = 1; k < 256; k++) if (k in no) numbers = numbers (numbers == "" ? "" : ",\n") sprintf("    SPINEYARROW_NO_%s = %d", no[k], k)
     print "\n/* the numbers that say no, in the lowest byte of an answer */"
     printf "enum spineyarrow_no {\n    SPINEYARROW_TAKEN = 0,\n%s\n", numbers
     print "};"

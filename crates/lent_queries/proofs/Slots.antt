@@ -1,13 +1,13 @@
 -- The tests of a call on a slot: what the number of the card's leaves to that of the slot's (slot-low, slot-high, slot-good), and a call that is let in names one
--- of the slots (slot-known).
+-- of the slots (slot-known). A record's slot that is not 0 has its place in the book (not-zero, at-least-one, in-book, place-wide).
 -- Assumes nothing.
-use mathlib.Core.Path.{_≡_, refl, sym, ap, _∙_}
+use mathlib.Core.Path.{_≡_, refl, sym, ap, subst, _∙_}
 use mathlib.Core.Bool.{Bool, true, false, not, _&&_, true≢false}
 use mathlib.Core.List.{[], _∷_}
-use Prim.Native.Nat.{ℕ, _≤_, _<_}
+use Prim.Native.Nat.{ℕ, _-_, _≤_, _<_, _^_}
 use native.Mathlib.Omega.{arith}
 use borrow.Author.Tests.{le-leb, lt-leb, leb-true, not-false}
-use lib.Dec.{T, leb, ltb, nltb→le}
+use lib.Dec.{T, eqb, leb, ltb, nltb→le, T-not}
 use Rattle.strings.specs.Pick.{pick}
 use Rattle.strings.specs.Numbers.{test, firstOf}
 use Rattle.strings.proofs.Tests.{past-first}
@@ -45,3 +45,17 @@ slot-known card k z e n =
     let q = not-false (isSlot k) (past-first 13 (not (isSlot k)) [] (p .1) .0) in
     let r = both (leb 1 k) (leb k slots) q in
     (leb-true 1 k (r .0), leb-true k slots (r .1))
+
+-- a slot that is not 0: its place is one of the book's
+pub not-zero : (s : ℕ) → T (not (eqb s 0)) → s ≡ 0 → ⊥
+not-zero s f e = T-not (eqb s 0) f (subst (λ (n : ℕ). T (eqb n 0)) (sym e) tt)
+
+module _ (s : ℕ) (f : T (not (eqb s 0))) (l : s ≤ slots) where
+  pub at-least-one : 1 ≤ s
+  at-least-one = omega (arith, not-zero s f)
+
+  pub in-book : s - 1 < slots
+  in-book = omega (arith, at-least-one, l)
+
+  pub place-wide : s - 1 < 2 ^ 64
+  place-wide = omega (arith, in-book)

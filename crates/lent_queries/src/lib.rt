@@ -9,3 +9,6 @@ pub use asking::spineyarrow_health;
 pub use asking::spineyarrow_record;
 pub use asking::spineyarrow_summary;
 pub use asking::spineyarrow_tallies;
+pub use copying::entry_in;
+pub use copying::row_in;
+pub use telling::slot_of;

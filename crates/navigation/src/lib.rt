@@ -6,6 +6,7 @@ mod writing;
 use records::ImmediateWords;
 use strings::Refusal;
 pub use writing::answer_number;
+pub use writing::write_all;
 pub use writing::write_record;
 
 // A record is written: of this satellite, and of this quarter of an hour since 31 December 1995, midnight

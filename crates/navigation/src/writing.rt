@@ -28,7 +28,7 @@ pub fn write_record(st: Station, card: u8, channel: u8, out: &mut [u8]) -> Answe
 }
 
 // What was gathered: NT and then N4 must be in range, and the output four lines long.
-fn write_all(out: &mut [u8], words: ImmediateWords, n4: i32, carrier: i32) -> Answer
+pub fn write_all(out: &mut [u8], words: ImmediateWords, n4: i32, carrier: i32) -> Answer
     requires { ⌜ AsRead words n4 ⌝ }
     ensures { λ r. ⌜ WritesAll words n4 carrier (now (out .entry)) r (now (out .exit)) ⌝ }
 {

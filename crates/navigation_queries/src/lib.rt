@@ -51,7 +51,7 @@ pub fn five_of(st: Station, card: u8, channel: u8) -> FiveFound
 }
 
 // Whether a row has a record, still holds its frame, and has string 5 of it.
-fn has_five(row: Row) -> bool
+pub fn has_five(row: Row) -> bool
     ensures { λ r. ⌜ r ≡ hasFive row ⌝ }
 {
     let kept = row.immediate;
@@ -65,7 +65,7 @@ fn has_five(row: Row) -> bool
 }
 
 // The words of string 5 among fifteen, whatever its bytes are.
-fn five_words(all: [u8; 165]) -> String5
+pub fn five_words(all: [u8; 165]) -> String5
     ensures { λ r. ⌜ r ≡ fiveOf (stringIn all 5) ⌝ }
 {
     string5_of(values_in(&all[44..55], Kind::Five))

@@ -61,6 +61,7 @@ use Rattle.lent.proofs.Walk.{free-all, local-of, sets, asks, asks-with}
 use Rattle.lent_queries.specs.Lent.{entryAt, TellsHealth}
 use Rattle.lent_queries.specs.Health.{slotOf, healthAt}
 use Rattle.lent_queries.proofs.Healths.{health-shut, health-none, health-some}
+use Rattle.lent_queries.proofs.Slots.{not-zero, at-least-one, in-book, place-wide}
 use Rattle.lent_queries.proofs.copying.row_in as row′
 use Rattle.lent_queries.proofs.copying.row_in.Symbol as row-def
 use Rattle.lent_queries.proofs.copying.row_in.Symbol.{name as #row-in}
@@ -87,20 +88,6 @@ st-slot = shrRefTo (0 ∷ []) tt (plain (λ _. ST.the-row))
 
 abbrev stayed : Stays (ask.ended .signature .params) (ask.ended .kept)
 stayed = (stay-dropped st-slot yes, (stay-dropped (plain (λ _. u8)) yes, (stay-dropped (plain (λ _. u8)) yes, tt)))
-
--- a slot that is not 0: its place is one of the book's
-not-zero : (s : ℕ) → T (not (eqb s 0)) → s ≡ 0 → ⊥
-not-zero s f e = T-not (eqb s 0) f (subst (λ (n : ℕ). T (eqb n 0)) (sym e) tt)
-
-module _ (s : ℕ) (f : T (not (eqb s 0))) (l : s ≤ slots) where
-  at-least-one : 1 ≤ s
-  at-least-one = omega (arith, not-zero s f)
-
-  in-book : s - 1 < slots
-  in-book = omega (arith, at-least-one, l)
-
-  place-wide : s - 1 < 2 ^ 64
-  place-wide = omega (arith, in-book)
 
 module _ {M : Type 1} (𝓤 : URA M) (H : Heap 𝓤) (A : Atoms 𝓤) (mem : Memory → SProp 𝓤) (run : Routine → Fun 𝓤) where
   -- the contracts that the proof cites
