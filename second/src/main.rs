@@ -21,6 +21,9 @@ const USAGE: &str = "usage:
   second make torn-edges SEED      write a torn file for windows of 256 KiB
   second make navigation SEED      write records for the navigation file
   second make sky SEED             write the words of a sky
+  second make calls SEED COUNT     write COUNT requests for trial: all calls of a card's program
+  second make card                 write what two cards hear, as a block of each for every second
+  second make card trial           write the same blocks as an input for trial
   second make sample               write a few records for the listing
   second make sample trial         write the same records as an input for trial
   second answer trial              read an input for trial, write the expected output
@@ -52,6 +55,9 @@ enum Command {
     MakeNavigation { seed: u64 },
     MakeSky { seed: u64 },
     MakeSampleListing,
+    MakeCalls { seed: u64, count: u64 },
+    MakeCard,
+    MakeCardTrial,
     AnswerTrial,
     AnswerLimit,
     AnswerListing,
@@ -116,6 +122,12 @@ fn parse(arguments: &[OsString]) -> Option<Command> {
             seed: seed.parse().ok()?,
         },
         ["make", "sample"] => Command::MakeSampleListing,
+        ["make", "calls", seed, count] => Command::MakeCalls {
+            seed: seed.parse().ok()?,
+            count: count.parse().ok()?,
+        },
+        ["make", "card"] => Command::MakeCard,
+        ["make", "card", "trial"] => Command::MakeCardTrial,
         ["answer", "trial"] => Command::AnswerTrial,
         ["answer", "limit"] => Command::AnswerLimit,
         ["answer", "listing"] => Command::AnswerListing,
@@ -148,6 +160,9 @@ fn run(command: Command) -> io::Result<()> {
         Command::MakeNavigation { seed } => output.write_all(&make::navigation_input(seed))?,
         Command::MakeSky { seed } => output.write_all(&make::sky_words(seed))?,
         Command::MakeSampleListing => output.write_all(&make::sample_for_listing())?,
+        Command::MakeCalls { seed, count } => make::write_calls(seed, count, &mut output)?,
+        Command::MakeCard => output.write_all(&make::card())?,
+        Command::MakeCardTrial => output.write_all(&make::card_for_trial())?,
         Command::AnswerTrial => {
             output.write_all(trial::answer_input(&whole_input()?).as_bytes())?
         }

@@ -1,6 +1,8 @@
 //! Makes inputs: requests for `trial`, records for the listing and the navigation file, a long
-//! block, strings for the logger, torn files and the words of a sky, from a seed.
+//! block, strings for the logger, torn files and the words of a sky, from a seed; and what two
+//! cards hear second by second.
 
+mod card;
 mod damage;
 mod faults;
 mod feed;
@@ -86,6 +88,12 @@ pub fn write_listing(seed: u64, count: u64, output: &mut impl Write) -> io::Resu
     Ok(())
 }
 
+/// So many requests on two stations, written as they are made.
+pub fn write_calls(seed: u64, count: u64, output: &mut impl Write) -> io::Result<()> {
+    let mut calls = station::calls::Calls::new(seed);
+    (0..count).try_for_each(|_| output.write_all(&calls.next_request()))
+}
+
 /// So many fields, and one that is refused.
 pub fn block(seed: u64, count: u64) -> Vec<u8> {
     field_feed::long_block(seed, count)
@@ -128,6 +136,16 @@ pub fn limit_input() -> Vec<u8> {
 
 pub fn sample_for_trial() -> Vec<u8> {
     without_a_seed(sample::add_all)
+}
+
+/// The blocks of two cards, second by second.
+pub fn card() -> Vec<u8> {
+    card::file()
+}
+
+/// The same blocks as requests, and questions.
+pub fn card_for_trial() -> Vec<u8> {
+    without_a_seed(card::add_all)
 }
 
 fn without_a_seed(add_all: fn(&mut Input)) -> Vec<u8> {

@@ -69,11 +69,21 @@ impl Feed {
         let mut random = SplitMix64::new(seed);
         // Near the end of a period, so that days pass from 1461 to 1.
         let day = (1 + random.below(29) as u128, 1455 + random.below(7) as u128);
+        Feed::begun_on(day, random, 0..channels)
+    }
+
+    /// The channels with these numbers, and almanacs of this day.
+    pub fn begun_on(
+        day: Day,
+        mut random: SplitMix64,
+        channels: impl IntoIterator<Item = u8>,
+    ) -> Feed {
         let uploads = (0..UPLOADS)
             .map(|_| Upload::new(&mut random, day))
             .collect();
         let phase = random.below(STRINGS_IN_A_FRAME) as u32;
-        let channels = (0..channels).map(|number| Channel::new(&mut random, number, phase));
+        let channels = channels.into_iter();
+        let channels = channels.map(|number| Channel::new(&mut random, number, phase));
         Feed {
             channels: channels.collect(),
             uploads,

@@ -2,6 +2,7 @@
 
 mod almanac;
 pub(super) mod blocks;
+pub(super) mod calls;
 pub(super) mod cards;
 pub(super) mod entry_words;
 mod frames;

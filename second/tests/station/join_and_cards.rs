@@ -128,7 +128,7 @@ fn other_channels_of_one_card_have_the_joined_book() {
 fn on_the_same_channels_the_book_is_another() {
     let mut random = SplitMix64::new(59);
     let is_another = (0..HISTORIES).any(|seed| {
-        let [first, second] = [seed, seed + HISTORIES].map(|seed| histories_of::<1>(seed));
+        let [first, second] = [seed, seed + HISTORIES].map(histories_of::<1>);
         let sites = [&first, &second].map(|[calls]| station_told(calls));
         let calls = [&first, &second].map(|[calls]| by(ONE, calls));
         let station = told(&mixed(&mut random, Mixing::AnyHow, &calls));

@@ -1,7 +1,7 @@
 //! Blocks of all kinds, each with questions after it that show the station it leaves.
 
 mod calls;
-mod refused_fields;
+pub(super) mod refused_fields;
 
 use super::super::hearing::in_some_polarity;
 use super::super::Input;

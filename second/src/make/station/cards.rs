@@ -5,7 +5,7 @@ mod news;
 mod payloads;
 mod refusals;
 mod sharing;
-mod skies;
+pub(super) mod skies;
 
 use super::super::Input;
 use super::blocks::{block_of, Call};
@@ -26,7 +26,7 @@ pub(in super::super) enum Asker {
     Card(u8),
 }
 
-pub(super) const CARD_ONE: Asker = Asker::Card(ONE);
+pub(in super::super) const CARD_ONE: Asker = Asker::Card(ONE);
 pub(in super::super) const CARD_TWO: Asker = Asker::Card(TWO);
 
 const ASKERS: [Asker; 6] = [
@@ -59,7 +59,7 @@ pub(in super::super) fn add_all(input: &mut Input) {
 }
 
 /// The first channel of a card.
-fn first_channel(card: u8) -> u8 {
+pub(super) fn first_channel(card: u8) -> u8 {
     match card {
         TWO => CHANNELS_OF_A_CARD as u8,
         _ => 0,

@@ -20,7 +20,7 @@ use crate::words::kinds::{DAY, TB, TK};
 use crate::words::word::time_of_day;
 
 const FRAME: u32 = STRINGS_IN_A_FRAME as u32;
-pub(super) const RIGHT_ROOM: u16 = RECORD_BYTES as u16;
+pub(in super::super) const RIGHT_ROOM: u16 = RECORD_BYTES as u16;
 
 /// The channel that the almanac comes from, of card one.
 const ALMANAC_CHANNEL: u8 = 10;
@@ -108,7 +108,7 @@ impl Input {
         self.strings_by(Asker::Card(place.card), place.channel, place.start, strings);
     }
 
-    pub(super) fn navigation_in(&mut self, card: u8, channel: u8, room: u16) {
+    pub(in super::super) fn navigation_in(&mut self, card: u8, channel: u8, room: u16) {
         let payload = [&[card, channel][..], &room.to_be_bytes()].concat();
         self.request(NAVIGATION, &payload);
     }

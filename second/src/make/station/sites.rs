@@ -53,11 +53,11 @@ pub(in super::super) fn add_all(input: &mut Input) {
 }
 
 impl Input {
-    fn other_station(&mut self) {
+    pub(super) fn other_station(&mut self) {
         self.request(OTHER_STATION, &[]);
     }
 
-    fn join(&mut self) {
+    pub(super) fn join(&mut self) {
         self.request(JOIN, &[]);
     }
 

@@ -139,7 +139,7 @@ fn good_record(channel: u8) -> Record {
 
 /// Unknown tags, wrong lengths, lengths past the end. The last one lacks three bytes, and
 /// takes them from the field behind it.
-fn refused_fields() -> [Vec<u8>; 9] {
+pub(in super::super) fn refused_fields() -> [Vec<u8>; 9] {
     [
         field(0, &[]),
         field(4, &[0; RECORD_BYTES]),

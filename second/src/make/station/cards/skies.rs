@@ -25,15 +25,23 @@ pub(super) fn add_all(input: &mut Input) {
 }
 
 /// What a card hears, from its channel `first` on.
-struct Sky {
-    card: u8,
+pub(in super::super) struct Sky {
+    pub(in super::super) card: u8,
     first: u8,
     feed: Feed,
 }
 
 impl Sky {
+    /// A frame later than the beginning of its feed, where strings of half a frame are all early.
+    pub(in super::super) fn of(mut feed: Feed, channels: usize, (card, first): (u8, u8)) -> Sky {
+        feed.by_ref()
+            .take(channels * STRINGS_IN_A_FRAME)
+            .for_each(drop);
+        Sky { card, first, feed }
+    }
+
     /// A wrong channel is the other's or none, for either card.
-    fn next_record(&mut self) -> Record {
+    pub(in super::super) fn next_record(&mut self) -> Record {
         let mut record = self.feed.next().expect("an endless feed");
         let others = first_channel(TWO)..2 * first_channel(TWO);
         record.channel = match record.channel {
@@ -54,15 +62,8 @@ fn forms(card: u8) -> [Asker; 2] {
 }
 
 impl Input {
-    /// A frame later than their beginning, where strings of half a frame are all early.
     fn skies(&mut self, places: [(u8, u8); 2], channels: usize) -> [Sky; 2] {
-        places.map(|(card, first)| {
-            let mut feed = self.feed(channels);
-            feed.by_ref()
-                .take(channels * STRINGS_IN_A_FRAME)
-                .for_each(drop);
-            Sky { card, first, feed }
-        })
+        places.map(|place| Sky::of(self.feed(channels), channels, place))
     }
 
     fn one_by_one_from_two_skies(&mut self, places: [(u8, u8); 2], channels: usize, count: usize) {
