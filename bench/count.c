@@ -38,18 +38,20 @@ static unsigned m0_cycles(const uint8_t *d, size_t z) {
     if ((h & 0xF000) == 0xC000) return 1 + ones(h & 0xFF);                         /* ldm/stm */
     return 1;
 }
+/* the size by the encoding: qemu 7.2 tells 4 of an instruction of 2 that stands 4 bytes before the end of a page of 1 KiB */
+static size_t size_of(const struct qemu_plugin_insn *s) { const uint8_t *d = qemu_plugin_insn_data(s); return (d[0] | d[1] << 8) >= 0xE800 ? 4 : 2; }
 struct span { uint64_t a, e; };
 static void on_tb_exec(unsigned c, void *u) { struct span *t = u; if (last_end && t->a != last_end) cyc += 2; last_end = t->e; }
 static void on_begin(unsigned c, void *u) { at = n; cat = cyc; }
 static void on_end(unsigned c, void *u) { fprintf(out, "%llu %llu\n", (unsigned long long)(n - at), (unsigned long long)(cyc - cat)); }
 static void on_tb(qemu_plugin_id_t id, struct qemu_plugin_tb *tb) {
     size_t k = qemu_plugin_tb_n_insns(tb);
-    if (m0) { struct span *t = malloc(sizeof *t); struct qemu_plugin_insn *l = qemu_plugin_tb_get_insn(tb, k - 1); t->a = qemu_plugin_tb_vaddr(tb); t->e = qemu_plugin_insn_vaddr(l) + qemu_plugin_insn_size(l); qemu_plugin_register_vcpu_tb_exec_cb(tb, on_tb_exec, CB_NO_REGS, t); }
+    if (m0) { struct span *t = malloc(sizeof *t); struct qemu_plugin_insn *l = qemu_plugin_tb_get_insn(tb, k - 1); t->a = qemu_plugin_tb_vaddr(tb); t->e = qemu_plugin_insn_vaddr(l) + size_of(l); qemu_plugin_register_vcpu_tb_exec_cb(tb, on_tb_exec, CB_NO_REGS, t); }
     for (size_t i = 0; i < k; i++) {
         struct qemu_plugin_insn *s = qemu_plugin_tb_get_insn(tb, i);
         uint64_t v = qemu_plugin_insn_vaddr(s);
         qemu_plugin_register_vcpu_insn_exec_inline(s, INLINE_ADD_U64, &n, 1);
-        if (m0) qemu_plugin_register_vcpu_insn_exec_inline(s, INLINE_ADD_U64, &cyc, m0_cycles(qemu_plugin_insn_data(s), qemu_plugin_insn_size(s)));
+        if (m0) qemu_plugin_register_vcpu_insn_exec_inline(s, INLINE_ADD_U64, &cyc, m0_cycles(qemu_plugin_insn_data(s), size_of(s)));
         if (v == a_begin) qemu_plugin_register_vcpu_insn_exec_cb(s, on_begin, CB_NO_REGS, 0);
         if (v == a_end) qemu_plugin_register_vcpu_insn_exec_cb(s, on_end, CB_NO_REGS, 0);
     }

@@ -1,7 +1,8 @@
-/* The calls that are measured. The strings are the superframe that channel 1 hears in data/sample.bin: 75 strings, each
+/* The calls that are measured, but for those of lent.c. The strings are the superframe that channel 1 hears in data/sample.bin: 75 strings, each
    plain, with one bit wrong and with two; and offered on four channels at once. */
 #include "rig.h"
 #include "sample.h"
+#include "station.h"
 #include <stdio.h>
 #include <string.h>
 typedef unsigned char u8;
@@ -18,19 +19,14 @@ extern unsigned spineyarrow_immediate(const u8 *one, usize n1, const u8 *two, us
 extern told spineyarrow_offer(void *station, u8 card, u8 channel, unsigned epoch, const u8 *s, usize n);
 extern told spineyarrow_field(void *station, u8 card, const u8 *block, usize n, usize at);
 extern usize spineyarrow_next(const u8 *block, usize n, usize at);
+extern void lent_calls(const u8 *records, int many); /* lent.c */
 
 enum { STRINGS = 75, CHANNELS = 4, RECORD = 16, FIELD = 3 + RECORD, KINDS = 8 };
 static u8 sent[STRINGS][11], plain[STRINGS][11], wrong1[STRINGS][11], wrong2[STRINGS][11], out[11];
 static u8 number[STRINGS], kind[STRINGS], records[STRINGS * CHANNELS * RECORD], block[STRINGS * CHANNELS * FIELD];
 static double value, numbers[12];
 static int words[STRINGS][8], read[26], of_kind[KINDS + 1][STRINGS], many[KINDS + 1], now;
-/* a station lent to the library: 48 rows, 24 entries of 24 bytes, and their summary; all zero is fresh. All calls are card one's. unproved reads the
-   row's size here, and report.py that and the number of rows */
-#define ROWS 48
-#ifndef ROW
-#define ROW 280
-#endif
-static struct { u8 rows[ROWS][ROW], book[24][24], summary[16]; } __attribute__((aligned(8))) station;
+static struct lent_station station; /* all calls are card one's */
 
 static void turn(u8 *s, int bit) { s[(85 - bit) / 8] ^= 1 << ((bit + 2) % 8); }
 static void relative(int i) { rig_sink = measured_relative(sent[i], 11, out, 11); }
@@ -120,5 +116,6 @@ int main(void) {
     if (i != (int)rig_sink) printf("DIFFERENT 0\n");
     rig_run("by-value-block", by_value_block, 1);
     if (station.book[0][18] != (u8)rig_sink) printf("DIFFERENT 0\n");
+    lent_calls(sample, sizeof sample / RECORD);
     return 0;
 }

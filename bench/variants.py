@@ -1,7 +1,7 @@
 """variants.py FOLDER NAME..: a table of what the calls cost on the M0 in each variant that bench/unproved built, FOLDER/NAME."""
 import sys
 
-from counts import KINDS, STRINGS, calls
+from counts import KINDS, LENT, STRINGS, calls
 
 folder, names = sys.argv[1], sys.argv[2:]
 tables = [calls(folder, name.replace(" ", "-")) for name in names]
@@ -26,3 +26,5 @@ row("its deepest stack, bytes", lambda t: f"{t['lent-block'][2]:,}")
 row("check, clean", lambda t: f"{t['check,-clean'][1]:,.0f}")
 row("a read", lambda t: between(t, "read"))
 row("an encode", lambda t: between(t, "encode"))
+for label, (name, _) in LENT.items():
+    row(name, lambda t: f"{t[label][1]:,.0f}")
