@@ -1,9 +1,12 @@
 /* Spineyarrow for a host in C. Made by `tools/draw header` from the sources of the crates: nothing else checks a C declaration against
    them, so do not edit it by hand.
 
-   Calls take any bytes and any length, and refuse what they cannot take. A pointer points to as many bytes as are said with it, and outputs
-   do not overlap inputs. An answer is numbers in one, each in a byte, the first in the lowest: 0 where the call is taken, or the number
-   that says no. A refusal leaves every output as it was. */
+   Calls take any bytes and any length, and refuse what they cannot take. An answer is numbers in one, each in a byte, the first in the lowest:
+   0 where the call is taken, or the number that says no. A refusal leaves every output as it was.
+
+   What the caller owes to every call: a pointer points to as many elements as are said with it, or to one; a room is the number of elements of
+   its output; a station is SPINEYARROW_STATION_BYTES bytes, aligned; of what is handed over nothing overlaps what is written; and one call is made
+   at a time on one station. */
 #ifndef SPINEYARROW_H
 #define SPINEYARROW_H
 
@@ -161,7 +164,7 @@ typedef char spineyarrow_entry_etop_lies[offsetof(struct spineyarrow_entry, etop
 typedef char spineyarrow_entry_otop_lies[offsetof(struct spineyarrow_entry, otop) == 19 ? 1 : -1];
 typedef char spineyarrow_entry_size[sizeof(struct spineyarrow_entry) == 24 ? 1 : -1];
 
-/*  */
+/* The almanac book: an entry for each of the 24 slots, slot 1 first. */
 struct spineyarrow_book {
     struct spineyarrow_entry entries[24];
 };
@@ -216,7 +219,10 @@ uint32_t spineyarrow_immediate(const uint8_t *one, uint64_t one_length, const ui
 
 /* Offers a string, in relative form and of any length, to a channel at an epoch. Card 1 has channels 0
    to 23, card 2 24 to 47. A card that is neither is told 16 CARD, a channel above 47 1 CHANNEL, and the
-   other card's 15 OWNER, before anything of the station is read. */
+   other card's 15 OWNER, before anything of the station is read; then 2 SHAPE, 31 to 33 DAMAGED, 4 IDLE,
+   5 NUMBER, 6 EARLY, 7 STALE, 8 OFF BEAT, 9 CONFLICT. Taken: 0 and, in the next bytes, m; 0 clean or 1
+   repaired; the bit that was repaired; 0 already held, 1 kept, 2 record built or 3 record out of range;
+   and 1 where the symbols came inverted. */
 uint64_t spineyarrow_offer(void *station, uint8_t card, uint8_t channel, uint32_t epoch, const uint8_t *s, uint64_t s_length);
 
 /* Empties a channel's row, its record and its tallies; the book stays. Card and channel are tested as

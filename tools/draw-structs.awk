@@ -64,7 +64,7 @@ function emit(name,    i, t, f, n, at, widest, body, asserts) {
         at += size[t] * (n ? n : 1)
     }
     size[name] = up(at, widest); align[name] = widest
-    printf "\n/* %s */\n%s {\n%s};\n%s", about[name], c[name], body, asserts
+    printf "\n%s%s {\n%s};\n%s", about[name] == "" ? "" : "/* " about[name] " */\n", c[name], body, asserts
     printf "typedef char spineyarrow_%s_size[sizeof(%s) == %d ? 1 : -1];\n", tolower(name), c[name], size[name]
 }
 

@@ -15,7 +15,10 @@ ghost use Rattle.lent.specs.Lent.{OffersLent, BringsAll, BringsOne, Sums
 
 // Offers a string, in relative form and of any length, to a channel at an epoch. Card 1 has channels 0
 // to 23, card 2 24 to 47. A card that is neither is told 16 CARD, a channel above 47 1 CHANNEL, and the
-// other card's 15 OWNER, before anything of the station is read.
+// other card's 15 OWNER, before anything of the station is read; then 2 SHAPE, 31 to 33 DAMAGED, 4 IDLE,
+// 5 NUMBER, 6 EARLY, 7 STALE, 8 OFF BEAT, 9 CONFLICT. Taken: 0 and, in the next bytes, m; 0 clean or 1
+// repaired; the bit that was repaired; 0 already held, 1 kept, 2 record built or 3 record out of range;
+// and 1 where the symbols came inverted.
 #[no_mangle]
 pub extern "C" fn spineyarrow_offer(
     st: &mut Station,
