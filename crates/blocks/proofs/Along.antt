@@ -15,7 +15,7 @@ use Rattle.fields.specs.declared.Why.TheVariants.{Tag, Length, Cut}
 use Rattle.fields.specs.Sixteen.{channel_in, epoch_in, symbols_in}
 use Rattle.fields.specs.Fields.{tag_in, length_in, body_in, is_unknown, is_wrong, is_cut, tests_in, is_good, size_at}
 use Rattle.fields.specs.Block.{Call, offer_of, reset_of, call_in, end_from}
-use Rattle.fields.proofs.Tested.{good-tells}
+use Rattle.fields.proofs.Tested.{good_tells}
 use Rattle.fields.proofs.Answers.{third}
 use Rattle.fields.proofs.Whole.{good_parts}
 use Rattle.station.proofs.EveryHistory.{some_answer, reset_answer, reset_answers}
@@ -142,25 +142,25 @@ module _ (st : Station) (card : ℕ) (block : List ℕ) (at : ℕ) where
   abbrev its : List ℕ
   its = tag_in rest ∷ answer_among st card (call_in rest)
 
-  before-end : (b : Bool) → is_good rest ≡ b → Telling (answer_of (tests_in at rest) its)
+  before_end : (b : Bool) → is_good rest ≡ b → Telling (answer_of (tests_in at rest) its)
   unfolding is_good
-  before-end true e = subst Telling (sym (good-tells at rest its e)) (by_tag st card rest (good_parts rest e).known)
-  before-end false e = by_tests (is_cut (length_in rest) (length rest)) (is_unknown (tag_in rest)) (is_wrong (tag_in rest) (length_in rest)) at its e
+  before_end true e = subst Telling (sym (good_tells at rest its e)) (by_tag st card rest (good_parts rest e).known)
+  before_end false e = by_tests (is_cut (length_in rest) (length rest)) (is_unknown (tag_in rest)) (is_wrong (tag_in rest) (length_in rest)) at its e
 
-  some-told : Telling (field_says st card block at)
+  some_told : Telling (field_says st card block at)
   unfolding field_says
-  some-told = by (leb (length block) at)
+  some_told = by (leb (length block) at)
     where
       by : (b : Bool) → Telling (pick b (0 ∷ 0 ∷ []) (answer_of (tests_in at rest) its))
       by true = record { told = End; says = refl }
-      by false = before-end (is_good rest) refl
+      by false = before_end (is_good rest) refl
 
   pub taken : Taken
-  taken = record { station = after_calls st card (calls_at block at); told = some-told.told; after = at + size_at block at }
+  taken = record { station = after_calls st card (calls_at block at); told = some_told.told; after = at + size_at block at }
 
   pub takes : Takes st card block at taken
   unfolding taken
-  takes = record { answer = some-told.says; station = refl; next = refl }
+  takes = record { answer = some_told.says; station = refl; next = refl }
 
 -- ---- and every block can be passed
 one_field : (st : Station) (card : ℕ) (block : List ℕ) (at : ℕ)

@@ -88,9 +88,9 @@ unfolding calls_at
 none_where block at e = rw e
 
 module _ (block : List ℕ) (at : ℕ) where
-  good-there : (n : ℕ) (ps : List ℕ) → 0 ∷ suc n ∷ ps ≡ said_at block at → GoodAt block at (suc n) × (ps ≡ pick (eqb (suc n) 3) [] ((at + 3) ∷ []))
+  good_there : (n : ℕ) (ps : List ℕ) → 0 ∷ suc n ∷ ps ≡ said_at block at → GoodAt block at (suc n) × (ps ≡ pick (eqb (suc n) 3) [] ((at + 3) ∷ []))
   unfolding said_at is_good
-  good-there n ps e =
+  good_there n ps e =
       let rest = drop at block in
       let q =
       good_by_tests (leb (length block) at) (is_cut (length_in rest) (length rest)) (is_unknown (tag_in rest)) (is_wrong (tag_in rest) (length_in rest)) at n ps
@@ -100,17 +100,17 @@ module _ (block : List ℕ) (at : ℕ) where
         ap (λ (l : List ℕ). drop 1 l) q.1.1 ∙ ap (λ (k : ℕ). pick (eqb k 3) [] ((at + 3) ∷ [])) tag,
       )
 
-  end-there : 0 ∷ 0 ∷ [] ≡ said_at block at → length block ≤ at
+  end_there : 0 ∷ 0 ∷ [] ≡ said_at block at → length block ≤ at
   unfolding said_at
-  end-there e =
+  end_there e =
       let rest = drop at block in
       leb-true (length block) at
       (end_by_tests (leb (length block) at) (is_cut (length_in rest) (length rest)) (is_wrong (tag_in rest) (length_in rest)) at (tag_in rest) e)
 
-  refused-there : (why : Why) (ps told : List ℕ) → why_number why ∷ ps ≡ said_at block at
+  refused_there : (why : Why) (ps told : List ℕ) → why_number why ∷ ps ≡ said_at block at
       → (why_number why ∷ ps ≡ pick (leb (length block) at) (0 ∷ 0 ∷ []) (answer_of (tests_in at (drop at block)) told)) × (is_good (drop at block) ≡ false)
   unfolding said_at is_good
-  refused-there why ps told e =
+  refused_there why ps told e =
       let rest = drop at block in
       refused_by_tests (leb (length block) at) (is_cut (length_in rest) (length rest)) (is_unknown (tag_in rest)) (is_wrong (tag_in rest) (length_in rest)) at
       (why_number why) ps (told_of at (tag_in rest)) told (no_number why) e
@@ -136,16 +136,16 @@ module _ (block : List ℕ) (at : ℕ) where
     right : is_wrong tag (length_in (drop at block)) ≡ false
     right = ap (λ (k : ℕ). is_wrong k (length_in (drop at block))) (sym g.its_tag) ∙ parts.right
 
-  not-not : (b : Bool) → not b ≡ false → b ≡ true
-  not-not true e = refl
-  not-not false e = sym e
+  not_not : (b : Bool) → not b ≡ false → b ≡ true
+  not_not true e = refl
+  not_not false e = sym e
 
   -- an offer has sixteen bytes, and a reset one
   sixteen : GoodAt block at 1 → length_in (drop at block) ≡ 16
-  sixteen g = eqb-true (length_in (drop at block)) 16 (not-not (eqb (length_in (drop at block)) 16) (right g))
+  sixteen g = eqb-true (length_in (drop at block)) 16 (not_not (eqb (length_in (drop at block)) 16) (right g))
 
   one_byte : GoodAt block at 2 → length_in (drop at block) ≡ 1
-  one_byte g = eqb-true (length_in (drop at block)) 1 (not-not (eqb (length_in (drop at block)) 1) (right g))
+  one_byte g = eqb-true (length_in (drop at block)) 1 (not_not (eqb (length_in (drop at block)) 1) (right g))
 
 -- ---- what the field leads to
 -- no call is made: the station, what is told, and the place after
@@ -184,8 +184,8 @@ pub record Leads (block : List ℕ) (at told : ℕ) (made : List Call) : Type 0 
   pub calls : calls_at block at ≡ made
 
 module _ {block : List ℕ} {at after : ℕ} {f : Field} (found : Finds block at f after) where
-  leads-good : {tag : ℕ} {made : List Call} → GoodAt block at tag → call_in (drop at block) ≡ made → Leads block at tag made
-  leads-good g n =
+  leads_good : {tag : ℕ} {made : List Call} → GoodAt block at tag → call_in (drop at block) ≡ made → Leads block at tag made
+  leads_good g n =
       record {
         says = λ st card. says-good block at g st card ∙ ap₂ (λ (k : ℕ) (cs : List Call). 0 ∷ k ∷ answer_among st card cs) g.its_tag n;
         calls = calls-good block at g ∙ n;
@@ -195,36 +195,36 @@ module _ {block : List ℕ} {at after : ℕ} {f : Field} (found : Finds block at
     -- an offer: its sixteen bytes are there
     module _ (e : f ≡ OfferAt body) where
       offer-there : GoodAt block at 1 × (body ∷ [] ≡ (at + 3) ∷ [])
-      offer-there = good-there block at 0 (body ∷ []) (ap field_paper (sym e) ∙ found.answer)
+      offer-there = good_there block at 0 (body ∷ []) (ap field_paper (sym e) ∙ found.answer)
 
-      pub offer-place : body ≡ at + 3
-      offer-place = ap (λ (l : List ℕ). get_or l 0 0) offer-there.1
+      pub offer_place : body ≡ at + 3
+      offer_place = ap (λ (l : List ℕ). get_or l 0 0) offer-there.1
 
-      pub offer-room : body + 16 ≤ length block
-      offer-room = omega (arith, offer-place, room block at offer-there.0, sixteen block at offer-there.0)
+      pub offer_room : body + 16 ≤ length block
+      offer_room = omega (arith, offer_place, room block at offer-there.0, sixteen block at offer-there.0)
 
       offer-body : take (body + 16 - body) (drop body block) ≡ body_in (drop at block)
       offer-body =
           let n : body + 16 - body ≡ length_in (drop at block) = omega (arith, sixteen block at offer-there.0) in
-          ap₂ (λ (k j : ℕ). take k (drop j block)) n offer-place ∙ ap (take (length_in (drop at block))) (sym (drop-drop 3 at block))
+          ap₂ (λ (k j : ℕ). take k (drop j block)) n offer_place ∙ ap (take (length_in (drop at block))) (sym (drop-drop 3 at block))
 
-      pub leads-offer : Leads block at 1 (offer_of (take (body + 16 - body) (drop body block)) ∷ [])
+      pub leads_offer : Leads block at 1 (offer_of (take (body + 16 - body) (drop body block)) ∷ [])
       unfolding call_in
-      leads-offer =
+      leads_offer =
           let g = offer-there.0 in
           let n : call_in (drop at block) ≡ offer_of (body_in (drop at block)) ∷ [] = rw g.its_tag in
-          leads-good g (n ∙ ap (λ (l : List ℕ). offer_of l ∷ []) (sym offer-body))
+          leads_good g (n ∙ ap (λ (l : List ℕ). offer_of l ∷ []) (sym offer-body))
 
     -- a reset: its byte is there
     module _ (e : f ≡ ResetAt body) where
       reset-there : GoodAt block at 2 × (body ∷ [] ≡ (at + 3) ∷ [])
-      reset-there = good-there block at 1 (body ∷ []) (ap field_paper (sym e) ∙ found.answer)
+      reset-there = good_there block at 1 (body ∷ []) (ap field_paper (sym e) ∙ found.answer)
 
       reset-place : body ≡ at + 3
       reset-place = ap (λ (l : List ℕ). get_or l 0 0) reset-there.1
 
-      pub reset-room : body < length block
-      reset-room = omega (arith, reset-place, room block at reset-there.0, one_byte block at reset-there.0)
+      pub reset_room : body < length block
+      reset_room = omega (arith, reset-place, room block at reset-there.0, one_byte block at reset-there.0)
 
       reset-byte : get_or block body 0 ≡ channel_in (body_in (drop at block))
       reset-byte =
@@ -234,38 +234,38 @@ module _ {block : List ℕ} {at after : ℕ} {f : Field} (found : Finds block at
           ∙ ap (λ (l : List ℕ). get_or l 0 0) (sym (drop-drop 3 at block))
           ∙ sym (get_or-take (length_in (drop at block)) (drop 3 (drop at block)) 0 0 n)
 
-      pub leads-reset : Leads block at 2 (Reset (get_or block body 0) ∷ [])
+      pub leads_reset : Leads block at 2 (Reset (get_or block body 0) ∷ [])
       unfolding call_in
-      leads-reset =
+      leads_reset =
           let g = reset-there.0 in
           let n : call_in (drop at block) ≡ Reset (channel_in (body_in (drop at block))) ∷ [] = rw g.its_tag in
-          leads-good g (n ∙ ap (λ (c : ℕ). Reset c ∷ []) (sym reset-byte))
+          leads_good g (n ∙ ap (λ (c : ℕ). Reset c ∷ []) (sym reset-byte))
 
   -- no call: the end, a remark, and a field that is refused
-  pub leads-end : f ≡ End → Leads block at 0 []
+  pub leads_end : f ≡ End → Leads block at 0 []
   unfolding field_says
-  leads-end e =
-      let h = end-there block at (ap field_paper (sym e) ∙ found.answer) in
+  leads_end e =
+      let h = end_there block at (ap field_paper (sym e) ∙ found.answer) in
       record {
         says = λ st card. rw (le-leb (length block) at h);
         calls = none_where block at (ap is_good (drop_of_length-le block h) ∙ none_empty);
       }
 
-  pub leads-remark : f ≡ Remark → Leads block at 3 []
+  pub leads_remark : f ≡ Remark → Leads block at 3 []
   unfolding call_in
-  leads-remark e =
-      let g = (good-there block at 2 [] (ap field_paper (sym e) ∙ found.answer)).0 in
-      leads-good g (rw g.its_tag)
+  leads_remark e =
+      let g = (good_there block at 2 [] (ap field_paper (sym e) ∙ found.answer)).0 in
+      leads_good g (rw g.its_tag)
 
   module _ (why : Why) (place : ℕ) (e : f ≡ Refused why place) where
-    pub says-refused : (st : Station) (card : ℕ) → field_says st card block at ≡ why_number why ∷ place ∷ []
+    pub says_refused : (st : Station) (card : ℕ) → field_says st card block at ≡ why_number why ∷ place ∷ []
     unfolding field_says
-    says-refused st card =
+    says_refused st card =
         let told = tag_in (drop at block) ∷ answer_among st card (call_in (drop at block)) in
-        sym (refused-there block at why (place ∷ []) told (ap field_paper (sym e) ∙ found.answer)).0
+        sym (refused_there block at why (place ∷ []) told (ap field_paper (sym e) ∙ found.answer)).0
 
-    pub none-refused : calls_at block at ≡ []
-    none-refused = none_where block at (refused-there block at why (place ∷ []) [] (ap field_paper (sym e) ∙ found.answer)).1
+    pub none_refused_lem : calls_at block at ≡ []
+    none_refused_lem = none_where block at (refused_there block at why (place ∷ []) [] (ap field_paper (sym e) ∙ found.answer)).1
 
   -- so a field is taken
   module _ {st : Station} {card : ℕ} {r : Taken} where
@@ -281,17 +281,17 @@ module _ {block : List ℕ} {at after : ℕ} {f : Field} (found : Finds block at
     takes_none n e l =
         record { answer = ap told_paper l.1.0 ∙ e; station = l.0 ∙ no_calls st card (calls_at block at) n; next = l.1.1 ∙ found.next }
 
-    pub takes-offer : (body : ℕ) → f ≡ OfferAt body → Makes st card (offer_of (take (body + 16 - body) (drop body block))) after r → Takes st card block at r
-    takes-offer body e = takes-call (leads-offer body e)
+    pub takes_offer : (body : ℕ) → f ≡ OfferAt body → Makes st card (offer_of (take (body + 16 - body) (drop body block))) after r → Takes st card block at r
+    takes_offer body e = takes-call (leads_offer body e)
 
-    pub takes-reset : (body : ℕ) → f ≡ ResetAt body → Makes st card (Reset (get_or block body 0)) after r → Takes st card block at r
-    takes-reset body e = takes-call (leads-reset body e)
+    pub takes_reset : (body : ℕ) → f ≡ ResetAt body → Makes st card (Reset (get_or block body 0)) after r → Takes st card block at r
+    takes_reset body e = takes-call (leads_reset body e)
 
-    pub takes-end : f ≡ End → Left st Ends after r → Takes st card block at r
-    takes-end e = let l = leads-end e in takes_none l.calls (sym (l.says st card))
+    pub takes_end : f ≡ End → Left st Ends after r → Takes st card block at r
+    takes_end e = let l = leads_end e in takes_none l.calls (sym (l.says st card))
 
-    pub takes-remark : f ≡ Remark → Left st Remarks after r → Takes st card block at r
-    takes-remark e = let l = leads-remark e in takes_none l.calls (sym (l.says st card))
+    pub takes_remark : f ≡ Remark → Left st Remarks after r → Takes st card block at r
+    takes_remark e = let l = leads_remark e in takes_none l.calls (sym (l.says st card))
 
-    pub takes-refused : (why : Why) (place : ℕ) → f ≡ Refused why place → Left st (Refuses why place) after r → Takes st card block at r
-    takes-refused why place e = takes_none (none-refused why place e) (sym (says-refused why place e st card))
+    pub takes_refused : (why : Why) (place : ℕ) → f ≡ Refused why place → Left st (Refuses why place) after r → Takes st card block at r
+    takes_refused why place e = takes_none (none_refused_lem why place e) (sym (says_refused why place e st card))

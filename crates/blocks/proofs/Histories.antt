@@ -51,11 +51,11 @@ as_calls from h st (hands card block answers before old r last ended run o along
 
 -- ---- DEMAND 3 READS A BLOCK AS ITS CALLS
 module _ {h : List Event} {st : Station} (run : RunsBy fresh_station h st) where
-  its-run : RunsFrom fresh_station (said_in h) st
-  its-run = as_calls fresh_station h st run
+  its_run : RunsFrom fresh_station (said_in h) st
+  its_run = as_calls fresh_station h st run
 
   its_calls : Runs (calls_by h) st
-  its_calls = demands.said_run (said_in h) st its-run
+  its_calls = demands.said_run (said_in h) st its_run
 
 pub blocks_as_calls : BlocksAsCalls
 blocks_as_calls =
@@ -64,14 +64,14 @@ blocks_as_calls =
       one_station = λ h st run. demands.one_station (calls_by h) st (its_calls run);
       well_made = λ h st run. demands.made (calls_by h) st (its_calls run);
       answers = λ h st run. demands.answers (calls_by h) st (its_calls run);
-      tallies = λ h st run. demands.tallies (said_in h) st (its-run run);
+      tallies = λ h st run. demands.tallies (said_in h) st (its_run run);
       counts = λ h st run. demands.counts (calls_by h) st (its_calls run);
       exchange = λ later earlier x y h st n run e.
-          demands.exchange later earlier x y st n (subst (λ (l : List Said). RunsFrom fresh_station l st) e (its-run run));
+          demands.exchange later earlier x y st n (subst (λ (l : List Said). RunsFrom fresh_station l st) e (its_run run));
       packed = λ later earlier x y g h st st' n run e run' e'.
-          (demands.exchange later earlier x y st n (subst (λ (l : List Said). RunsFrom fresh_station l st) e (its-run run))).only (said_in h) st'
-          (its-run run') e';
-      reordering = λ g h st st' run run'. demands.reordering (said_in g) (said_in h) st st' (its-run run) (its-run run');
+          (demands.exchange later earlier x y st n (subst (λ (l : List Said). RunsFrom fresh_station l st) e (its_run run))).only (said_in h) st'
+          (its_run run') e';
+      reordering = λ g h st st' run run'. demands.reordering (said_in g) (said_in h) st st' (its_run run) (its_run run');
       two_stations = λ g h st st' run run' same. demands.two_stations (calls_by g) (calls_by h) same st st' (its_calls run) (its_calls run');
       book = λ h st run. demands.book (calls_by h) st (its_calls run);
       summary = λ h st run. demands.summary (calls_by h) st (its_calls run);

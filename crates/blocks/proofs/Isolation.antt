@@ -15,7 +15,7 @@ use Rattle.station.specs.declared.Emptied.{Emptied}
 use Rattle.station.specs.Station.{is_card, is_served, held_at, told_in, station_after, OffersTo, station_reset, Resets}
 use Rattle.station.specs.Demand1.{WellMade}
 use Rattle.station.specs.Isolation.{AgreeFor}
-use Rattle.station.proofs.Served.{enters_no_card, shut-says}
+use Rattle.station.proofs.Served.{enters_no_card, shut_says_lem}
 use Rattle.station.proofs.EveryHistory.{some_answer, offer_answers, reset_answer, reset_answers}
 use Rattle.station.proofs.WellMade.{offer_made, reset_made}
 use Rattle.station.proofs.Demands.{demands}
@@ -98,38 +98,38 @@ only_let_in card (call ∷ calls) st = by (is_served card (channel_named call)) 
 
 -- ---- a card that there is not
 module _ (card : ℕ) (none : is_card card ≡ false) where
-  not-let-in : (call : Call) → is_served card (channel_named call) ≡ false
-  not-let-in (Offer c epoch s) = (enters_no_card card c none).0
-  not-let-in (Reset c) = (enters_no_card card c none).0
+  not_let_in : (call : Call) → is_served card (channel_named call) ≡ false
+  not_let_in (Offer c epoch s) = (enters_no_card card c none).0
+  not_let_in (Reset c) = (enters_no_card card c none).0
 
-  said-16 : (st : Station) (call : Call) → answer_in st card call ≡ 16 ∷ []
+  said_16 : (st : Station) (call : Call) → answer_in st card call ≡ 16 ∷ []
   unfolding answer_in
-  said-16 st (Offer c epoch s) =
+  said_16 st (Offer c epoch s) =
       let e = enters_no_card card c none in
-      shut-says card c (offer_tests (held_at st c) epoch s) (told_in st c epoch s) e.0 ∙ sym e.1
-  said-16 st (Reset c) = sym (enters_no_card card c none).1
+      shut_says_lem card c (offer_tests (held_at st c) epoch s) (told_in st c epoch s) e.0 ∙ sym e.1
+  said_16 st (Reset c) = sym (enters_no_card card c none).1
 
-  all-16 : (st : Station) (calls : List Call) → (answers_to st card calls ≡ replicate (length calls) (16 ∷ [])) × (after_calls st card calls ≡ st)
+  all_16 : (st : Station) (calls : List Call) → (answers_to st card calls ≡ replicate (length calls) (16 ∷ [])) × (after_calls st card calls ≡ st)
   unfolding answers_to after_calls
-  all-16 st [] = (refl, refl)
-  all-16 st (call ∷ calls) =
-      let b = all-16 (after_call st card call) calls in
-      (ap₂ (λ (l : List ℕ) (ls : List (List ℕ)). l ∷ ls) (said-16 st call) b.0, b.1 ∙ shut_call st card call (not-let-in call))
+  all_16 st [] = (refl, refl)
+  all_16 st (call ∷ calls) =
+      let b = all_16 (after_call st card call) calls in
+      (ap₂ (λ (l : List ℕ) (ls : List (List ℕ)). l ∷ ls) (said_16 st call) b.0, b.1 ∙ shut_call st card call (not_let_in call))
 
 -- ---- a field
 module _ (card : ℕ) (st st' : Station) (w : WellMade st) (w' : WellMade st') (agree : AgreeFor card st st') where
-  among-alike : (calls : List Call) → answer_among st card calls ≡ answer_among st' card calls
-  among-alike [] = refl
-  among-alike (call ∷ calls) = (own_call card st st' w w' agree call).0
+  among_alike : (calls : List Call) → answer_among st card calls ≡ answer_among st' card calls
+  among_alike [] = refl
+  among_alike (call ∷ calls) = (own_call card st st' w w' agree call).0
 
-  says-alike : (block : List ℕ) (at : ℕ) → field_says st card block at ≡ field_says st' card block at
+  says_alike : (block : List ℕ) (at : ℕ) → field_says st card block at ≡ field_says st' card block at
   unfolding field_says
-  says-alike block at = rw (among-alike (call_in (drop at block)))
+  says_alike block at = rw (among_alike (call_in (drop at block)))
 
   own_field : (block : List ℕ) (at : ℕ) (r r' : Taken) → Takes st card block at r → Takes st' card block at r'
       → (r.told ≡ r'.told) × ((r.after ≡ r'.after) × AgreeFor card r.station r'.station)
   own_field block at r r' t t' = (
-    told_same r.told r'.told (t.answer ∙ says-alike block at ∙ sym t'.answer),
+    told_same r.told r'.told (t.answer ∙ says_alike block at ∙ sym t'.answer),
     (
       t.next ∙ sym t'.next,
       subst (λ (x : Station). AgreeFor card x r'.station) (sym t.station)
@@ -156,7 +156,7 @@ isolation =
       shut_out = λ st card block r o. o.station ∙ only_let_in card (calls_in block) st;
       no_card = λ st card block answers last ended none along.
           let a = as_calls st card block answers last ended along in
-          let n = all-16 card none st (calls_in block) in
+          let n = all_16 card none st (calls_in block) in
           record { answered = a.same_answers ∙ n.0; station = a.same_station ∙ n.1; end = a.end };
       others_leave = λ card st other block r n o.
           subst (λ (x : Station). AgreeFor card x st) (sym o.station) (other_calls card st other n (calls_in block));

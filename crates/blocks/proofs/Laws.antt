@@ -21,7 +21,7 @@ use Rattle.fields.specs.Block.{Call, call_in, calls_of, calls_in, end_in}
 use Rattle.fields.specs.Written.{Item, block_of, calls_among, AllFit}
 use Rattle.fields.specs.Laws.{onward}
 use Rattle.fields.proofs.Whole.{size_none}
-use Rattle.fields.proofs.Tested.{refused-never}
+use Rattle.fields.proofs.Tested.{refused_never}
 use Rattle.fields.proofs.Steps.{fields_none}
 use Rattle.fields.proofs.Laws.{laws as fields-laws}
 use Rattle.channel.proofs.Answers.{answer_same}
@@ -153,13 +153,13 @@ module _ (st : Station) (card : ℕ) (block : List ℕ) (at : ℕ) (r : Taken) (
   abbrev rest : List ℕ
   rest = drop at block
 
-  not-before : r.told ≡ End → at < length block → ⊥
-  not-before e h = by (is_good rest) refl
+  not_before : r.told ≡ End → at < length block → ⊥
+  not_before e h = by (is_good rest) refl
     where
       by : (b : Bool) → is_good rest ≡ b → ⊥
       by true g = never_0 rest g (sym (ap second (ap told_paper (sym e) ∙ t.answer ∙ says_call st card block at g)))
       by false g =
-          refused-never at rest (tag_in rest ∷ answer_among st card (call_in rest)) (0 ∷ []) g
+          refused_never at rest (tag_in rest ∷ answer_among st card (call_in rest)) (0 ∷ []) g
           (sym (says_before st card block at h) ∙ sym t.answer ∙ ap told_paper e)
 
   past_end : length block ≤ at → r.told ≡ End
@@ -171,7 +171,7 @@ module _ (st : Station) (card : ℕ) (block : List ℕ) (at : ℕ) (r : Taken) (
     where
       by : (b : Bool) → leb (length block) at ≡ b → r.told ≡ End → length block ≤ at
       by true p e = leb-true (length block) at p
-      by false p e = absurd (not-before e (leb-false (length block) at p))
+      by false p e = absurd (not_before e (leb-false (length block) at p))
 
 -- ---- field by field as the whole block
 same_station : (st : Station) (card : ℕ) (block : List ℕ) (answers : List (List ℕ)) (last : Station) (ended : Ended) (r : Handed)
@@ -209,27 +209,27 @@ kept st card before rest r w e o =
 -- a field that is refused though it is whole, with any bytes after it
 module _ (field : List ℕ) (e : is_good field ≡ false) (h : 3 + length_in field ≤ length field) where
   module _ (x : List ℕ) where
-    tag-then : tag_in (field ++ x) ≡ tag_in field
-    tag-then = get_or-append field x 0 0 (omega arith)
+    tag_then : tag_in (field ++ x) ≡ tag_in field
+    tag_then = get_or-append field x 0 0 (omega arith)
 
-    length-then : length_in (field ++ x) ≡ length_in field
-    length-then =
+    length_then : length_in (field ++ x) ≡ length_in field
+    length_then =
         ap (λ (l : List ℕ). value_of (take 2 l)) (drop-append-le 1 field x (omega arith))
         ∙ ap value_of (take-append-le 2 (drop 1 field) x (omega (arith, length-drop 1 field)))
 
     whole-then : is_cut (length_in (field ++ x)) (length (field ++ x)) ≡ false
-    whole-then = le-ltb (length (field ++ x)) (3 + length_in (field ++ x)) (omega (arith, length-then, length-append field x))
+    whole-then = le-ltb (length (field ++ x)) (3 + length_in (field ++ x)) (omega (arith, length_then, length-append field x))
 
     refused-then : is_good (field ++ x) ≡ false
     unfolding is_good
     refused-then =
-        rw (whole-then, tag-then, length-then) (rw (le-ltb (length field) (3 + length_in field) h) at e)
+        rw (whole-then, tag_then, length_then) (rw (le-ltb (length field) (3 + length_in field) h) at e)
 
     end-then : end_in (field ++ x)
         ≡ answer_of (test_at 43 0 false ∷ test_at 41 0 (is_unknown (tag_in field)) ∷ test_at 42 0 (is_wrong (tag_in field) (length_in field)) ∷ []) []
     end-then =
         end_none (field ++ x) 0 refused-then
-        ∙ rw (lt-leb (length (field ++ x)) 0 (omega (arith, length-append field x)), whole-then, tag-then, length-then)
+        ∙ rw (lt-leb (length (field ++ x)) 0 (omega (arith, length-append field x)), whole-then, tag_then, length_then)
 
 no_effect : (st : Station) (card : ℕ) (before field x y : List ℕ) (r q : Handed) → end_in before ≡ 0 ∷ [] → is_good field ≡ false
     → 3 + length_in field ≤ length field

@@ -15,8 +15,8 @@ use Rattle.strings.specs.Pick.{pick}
 use Rattle.strings.specs.Numbers.{answer_of}
 use Rattle.fields.specs.Fields.{tag_in, is_unknown, tests_in, is_good, size_in}
 use Rattle.fields.specs.Block.{Call, call_in, fields_in, calls_of, calls_in, joined, end_at, end_from, end_in}
-use Rattle.fields.proofs.Whole.{good_parts, size_is, size_none, front_length, calls-front}
-use Rattle.fields.proofs.Tested.{good-tells, refused-tells, refused-never}
+use Rattle.fields.proofs.Whole.{good_parts, size_is, size_none, front_length, calls_front}
+use Rattle.fields.proofs.Tested.{good_tells, refused_tells, refused_never}
 use Rattle.fields.proofs.Steps.{fields_none, fields_good}
 use Rattle.station.specs.declared.Station.{Station}
 use Rattle.blocks.specs.declared.Told.{Told}
@@ -55,14 +55,14 @@ module _ (block : List ℕ) (at : ℕ) where
     left-of : drop size rest ≡ drop (at + size) block
     left-of = drop-drop size at block
 
-    pub from-good : from block at ≡ call_in rest ++ from block (at + size)
+    pub from_good : from block at ≡ call_in rest ++ from block (at + size)
     unfolding calls_of
-    from-good =
-        ap calls_of (fields_good rest e) ∙ ap₂ ◌++◌ (calls-front rest e) (ap (λ (l : List ℕ). calls_of (fields_in l)) left-of)
+    from_good =
+        ap calls_of (fields_good rest e) ∙ ap₂ ◌++◌ (calls_front rest e) (ap (λ (l : List ℕ). calls_of (fields_in l)) left-of)
 
-    pub end-good : end_from block at ≡ end_from block (at + size)
+    pub end_good : end_from block at ≡ end_from block (at + size)
     unfolding end_from joined
-    end-good =
+    end_good =
         let n : at + length (joined (fields_in rest)) ≡ at + size + length (joined (fields_in (drop (at + size) block))) =
         ap (λ (k : ℕ). at + k)
         (ap (λ (fs : List (List ℕ)). length (joined fs)) (fields_good rest e) ∙ length-append (take size rest) (joined (fields_in (drop size rest)))
@@ -74,9 +74,9 @@ module _ (block : List ℕ) (at : ℕ) where
 
   -- ---- none
   module _ (e : is_good rest ≡ false) where
-    pub from-none : from block at ≡ []
+    pub from_none : from block at ≡ []
     unfolding calls_of
-    from-none = ap calls_of (fields_none rest e)
+    from_none = ap calls_of (fields_none rest e)
 
     pub end_none : end_from block at ≡ end_at block at
     unfolding end_from joined
@@ -95,11 +95,11 @@ module _ (block : List ℕ) (at : ℕ) (e : is_good (drop at block) ≡ false) w
   -- before it, a number and its place
   stopped : (told : Told) (l : List ℕ) → told_paper told ≡ answer_of (tests_in at (drop at block)) l
       → ended_paper (ended_by told) ≡ answer_of (tests_in at (drop at block)) []
-  stopped End l p = absurd (refused-never at (drop at block) l _ e (sym p))
-  stopped (Offered answer) l p = absurd (refused-never at (drop at block) l _ e (sym p))
-  stopped (Emptied answer) l p = absurd (refused-never at (drop at block) l _ e (sym p))
-  stopped Remark l p = absurd (refused-never at (drop at block) l _ e (sym p))
-  stopped (Refused why place) l p = p ∙ refused-tells at (drop at block) l e
+  stopped End l p = absurd (refused_never at (drop at block) l _ e (sym p))
+  stopped (Offered answer) l p = absurd (refused_never at (drop at block) l _ e (sym p))
+  stopped (Emptied answer) l p = absurd (refused_never at (drop at block) l _ e (sym p))
+  stopped Remark l p = absurd (refused_never at (drop at block) l _ e (sym p))
+  stopped (Refused why place) l p = p ∙ refused_tells at (drop at block) l e
 
   ended : (st : Station) (card : ℕ) (told : Told) → told_paper told ≡ field_says st card block at → ended_paper (ended_by told) ≡ end_at block at
   unfolding field_says
@@ -137,8 +137,8 @@ module _ {st : Station} {card : ℕ} {block : List ℕ} {at : ℕ} {r : Taken} (
             good = e;
             forward = omega (arith, (falls block at e).0, s);
             within = omega (arith, (falls block at e).1, s);
-            calls = from-good block at e ∙ ap₂ (λ (cs : List Call) (k : ℕ). cs ++ from block k) (sym (calls_where block at e)) s;
-            end = end-good block at e ∙ ap (end_from block) s;
+            calls = from_good block at e ∙ ap₂ (λ (cs : List Call) (k : ℕ). cs ++ from block k) (sym (calls_where block at e)) s;
+            end = end_good block at e ∙ ap (end_from block) s;
           }
       by false e = absurd (n (t.next ∙ ap (λ (k : ℕ). at + k) (size_none (drop at block) e) ∙ omega arith))
 
@@ -150,7 +150,7 @@ module _ {st : Station} {card : ℕ} {block : List ℕ} {at : ℕ} {r : Taken} (
       by false e =
           record {
             refused = e;
-            calls = from-none block at e;
+            calls = from_none block at e;
             none = none_where block at e;
             end = ended block at e st card r.told t.answer ∙ sym (end_none block at e);
           }
@@ -165,12 +165,12 @@ pub says_call : (st : Station) (card : ℕ) (block : List ℕ) (at : ℕ) → is
 unfolding field_says
 says_call st card block at e =
     let f = falls block at e in
-    rw (lt-leb (length block) at (omega (arith, f.0, f.1))) (good-tells at (drop at block) _ e)
+    rw (lt-leb (length block) at (omega (arith, f.0, f.1))) (good_tells at (drop at block) _ e)
 
 module _ {st : Station} {card : ℕ} {block : List ℕ} {at : ℕ} {r : Taken} (t : Takes st card block at r) where
   -- a good field is not the last
-  good-goes : is_good (drop at block) ≡ true → is_last r.told ≡ false
-  good-goes e = by r.told (t.answer ∙ says_call st card block at e)
+  good_goes : is_good (drop at block) ≡ true → is_last r.told ≡ false
+  good_goes e = by r.told (t.answer ∙ says_call st card block at e)
     where
       by : (told : Told) → told_paper told ≡ 0 ∷ tag_in (drop at block) ∷ answer_among st card (call_in (drop at block)) → is_last told ≡ false
       by End p = absurd (never_0 (drop at block) e (sym (ap (λ (l : List ℕ). get_or l 1 0) p)))
@@ -180,9 +180,9 @@ module _ {st : Station} {card : ℕ} {block : List ℕ} {at : ℕ} {r : Taken} (
       by (Refused why place) p = absurd (no_number why (ap (λ (l : List ℕ). get_or l 0 0) p))
 
   -- and one that is refused is
-  none-stops : is_good (drop at block) ≡ false → is_last r.told ≡ true
+  none_stops : is_good (drop at block) ≡ false → is_last r.told ≡ true
   unfolding field_says
-  none-stops e = by (leb (length block) at) r.told t.answer
+  none_stops e = by (leb (length block) at) r.told t.answer
     where
       by : (b : Bool) (told : Told)
           → told_paper told ≡ pick b (0 ∷ 0 ∷ []) (answer_of (tests_in at (drop at block)) (tag_in (drop at block) ∷ answer_among st card (call_in (drop at block))))
@@ -192,15 +192,15 @@ module _ {st : Station} {card : ℕ} {block : List ℕ} {at : ℕ} {r : Taken} (
       by true (Offered answer) p = let z : ◌≡◌ {A = ℕ} 1 0 = ap (λ (l : List ℕ). get_or l 1 0) p in absurd (omega arith)
       by true (Emptied answer) p = let z : ◌≡◌ {A = ℕ} 2 0 = ap (λ (l : List ℕ). get_or l 1 0) p in absurd (omega arith)
       by true Remark p = let z : ◌≡◌ {A = ℕ} 3 0 = ap (λ (l : List ℕ). get_or l 1 0) p in absurd (omega arith)
-      by false (Offered answer) p = absurd (refused-never at (drop at block) _ _ e (sym p))
-      by false (Emptied answer) p = absurd (refused-never at (drop at block) _ _ e (sym p))
-      by false Remark p = absurd (refused-never at (drop at block) _ _ e (sym p))
+      by false (Offered answer) p = absurd (refused_never at (drop at block) _ _ e (sym p))
+      by false (Emptied answer) p = absurd (refused_never at (drop at block) _ _ e (sym p))
+      by false Remark p = absurd (refused_never at (drop at block) _ _ e (sym p))
 
-  pub last-stays : is_last r.told ≡ true → r.after ≡ at
-  last-stays l = by (is_good (drop at block)) refl
+  pub last_stays : is_last r.told ≡ true → r.after ≡ at
+  last_stays l = by (is_good (drop at block)) refl
     where
       by : (b : Bool) → is_good (drop at block) ≡ b → r.after ≡ at
-      by true e = absurd (true≢false (sym l ∙ good-goes e))
+      by true e = absurd (true≢false (sym l ∙ good_goes e))
       by false e = t.next ∙ ap (λ (k : ℕ). at + k) (size_none (drop at block) e) ∙ omega arith
 
   pub goes_on : is_last r.told ≡ false → r.after ≡ at → ⊥
@@ -208,18 +208,18 @@ module _ {st : Station} {card : ℕ} {block : List ℕ} {at : ℕ} {r : Taken} (
     where
       by : (b : Bool) → is_good (drop at block) ≡ b → ⊥
       by true e = omega (arith, (falls block at e).0, t.next, h)
-      by false e = true≢false (sym (none-stops e) ∙ l)
+      by false e = true≢false (sym (none_stops e) ∙ l)
 
 -- ---- what was handed over up to a place, and what is left
-pub record so_far (st : Station) (card : ℕ) (block : List ℕ) (next : Station) (at : ℕ) : Type 0 where
+pub record SoFar (st : Station) (card : ℕ) (block : List ℕ) (next : Station) (at : ℕ) : Type 0 where
   pub station : after_calls next card (from block at) ≡ after_calls st card (calls_in block)
   pub end : end_from block at ≡ end_in block
 
-pub so_far_none : (st : Station) (card : ℕ) (block : List ℕ) → so_far st card block st 0
+pub so_far_none : (st : Station) (card : ℕ) (block : List ℕ) → SoFar st card block st 0
 so_far_none st card block = record { station = refl; end = refl }
 
-module _ {st next : Station} {card : ℕ} {block : List ℕ} {at : ℕ} {r : Taken} (s : so_far st card block next at) (t : Takes next card block at r) where
-  pub so_far_more : (r.after ≡ at → ⊥) → so_far st card block r.station r.after
+module _ {st next : Station} {card : ℕ} {block : List ℕ} {at : ℕ} {r : Taken} (s : SoFar st card block next at) (t : Takes next card block at r) where
+  pub so_far_more : (r.after ≡ at → ⊥) → SoFar st card block r.station r.after
   so_far_more n =
       let m = moves t n in
       record {
@@ -229,9 +229,9 @@ module _ {st next : Station} {card : ℕ} {block : List ℕ} {at : ℕ} {r : Tak
         end = sym m.end ∙ s.end;
       }
 
-  pub so-far-all : r.after ≡ at → {ended : Ended} → ended ≡ ended_by r.told → HandsOver st card block (record { station = r.station; ended = ended })
+  pub so_far_all : r.after ≡ at → {ended : Ended} → ended ≡ ended_by r.told → HandsOver st card block (record { station = r.station; ended = ended })
   unfolding after_calls
-  so-far-all h {ended} e =
+  so_far_all h {ended} e =
       let m = stops t h in
       record {
         station = t.station ∙ ap (after_calls next card) (m.none ∙ sym m.calls) ∙ s.station;

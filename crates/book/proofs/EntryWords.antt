@@ -13,7 +13,7 @@ use Rattle.words.specs.Values.{values_of, carrier_of}
 use Rattle.words.proofs.Names.{signed_in_lem}
 use Rattle.book.specs.Entry.{Three, meaning, even_words, odd_words}
 use Rattle.book.specs.EntryWords.{EvenBits, OddBits, EveryEntrysWords}
-use Rattle.book.proofs.ShownExactly.{shown-exactly}
+use Rattle.book.proofs.ShownExactly.{shown_exactly}
 
 -- ---- a word within the bits from 80 down to `last`, read where they stand
 half_word : (n last top low : ℕ) → 1 ≤ last → last ≤ low → low ≤ top → top ≤ 80 → word_of (word_of n 80 last * 2 ^ (last - 1)) top low ≡ word_of n top low
@@ -78,5 +78,5 @@ module _ (n : ℕ) (t : Three) where
 -- AN ENTRY'S WORDS are those of the strings that showed it, and its l is 0
 pub entry_words : EveryEntrysWords
 entry_words five even odd slot e q =
-    let s = (shown-exactly five even odd).what slot e q in
+    let s = (shown_exactly five even odd).what slot e q in
     record { of_even = even_bits even (meaning e) s.even_bits; of_odd = odd_bits odd (meaning e) s.odd_bits }

@@ -17,7 +17,7 @@ use lib.Pow.{high, low}
 use Rattle.strings.specs.Pick.{pick}
 use Rattle.book.specs.declared.Entry.{Entry}
 use Rattle.book.specs.Entry.{Three, meaning, entry_of, is_below, greater, blank, Fits}
-use Rattle.book.proofs.Parts.{first_differs, last_equal, two-parts}
+use Rattle.book.proofs.Parts.{first_differs, last_equal, two_parts}
 
 -- ---- lists of numbers, by the first number that differs
 abbrev lex_lt : List ℕ → List ℕ → Bool
@@ -165,9 +165,9 @@ pub below_fields : (a b : Entry) → a.even < 2 ^ 64 → b.even < 2 ^ 64 → a.o
 below_fields a b ea eb oa ob =
     below_lex (meaning a) (meaning b)
     ∙ ap (λ (r : Bool). pick (eqb a.day b.day) r (ltb a.day b.day))
-    (two-parts (2 ^ 64) a.etop a.even b.etop b.even ea eb _
+    (two_parts (2 ^ 64) a.etop a.even b.etop b.even ea eb _
     ∙ ap (λ (r : Bool). pick (eqb a.etop b.etop) (pick (eqb a.even b.even) r (ltb a.even b.even)) (ltb a.etop b.etop))
-    (two-parts (2 ^ 64) a.otop a.odd b.otop b.odd oa ob false
+    (two_parts (2 ^ 64) a.otop a.odd b.otop b.odd oa ob false
     ∙ ap (λ (r : Bool). pick (eqb a.otop b.otop) r (ltb a.otop b.otop)) (sym (last_equal a.odd b.odd))))
 
 -- ---- the blank entry

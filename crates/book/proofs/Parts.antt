@@ -44,8 +44,8 @@ module _ (p a b c d : ℕ) (hb : b < p) (hd : d < p) where
       let m : suc c * p ≤ a * p = mul-le-mul_right p h in
       omega (arith, suc-mul c p)
 
-  pub two-parts : (r : Bool) → pick (eqb (a * p + b) (c * p + d)) r (ltb (a * p + b) (c * p + d)) ≡ pick (eqb a c) (pick (eqb b d) r (ltb b d)) (ltb a c)
-  two-parts r = by (eqb a c) (eqb b d) (ltb a c) (ltb b d) refl refl refl refl
+  pub two_parts : (r : Bool) → pick (eqb (a * p + b) (c * p + d)) r (ltb (a * p + b) (c * p + d)) ≡ pick (eqb a c) (pick (eqb b d) r (ltb b d)) (ltb a c)
+  two_parts r = by (eqb a c) (eqb b d) (ltb a c) (ltb b d) refl refl refl refl
     where
       by : (t u v w : Bool) → eqb a c ≡ t → eqb b d ≡ u → ltb a c ≡ v → ltb b d ≡ w
           → pick (eqb (a * p + b) (c * p + d)) r (ltb (a * p + b) (c * p + d)) ≡ pick t (pick u r w) v
@@ -68,8 +68,8 @@ module _ (p a b c d : ℕ) (hb : b < p) (hd : d < p) where
 
 -- ---- a word cut in two: its two parts are words
 module _ (n top mid low : ℕ) (h : 1 ≤ low) (l : low ≤ mid + 1) (u : mid ≤ top) where
-  pub word-high : word_of n top low / 2 ^ (mid + 1 - low) ≡ word_of n top (mid + 1)
-  word-high = ap (λ (x : ℕ). x / 2 ^ (mid + 1 - low)) (word_cut n top mid low h l u) ∙ high (word_of n top (mid + 1)) (mid + 1 - low) (word_lt n mid low)
+  pub word_high : word_of n top low / 2 ^ (mid + 1 - low) ≡ word_of n top (mid + 1)
+  word_high = ap (λ (x : ℕ). x / 2 ^ (mid + 1 - low)) (word_cut n top mid low h l u) ∙ high (word_of n top (mid + 1)) (mid + 1 - low) (word_lt n mid low)
 
   pub word_low : word_of n top low % 2 ^ (mid + 1 - low) ≡ word_of n mid low
   word_low = ap (λ (x : ℕ). x % 2 ^ (mid + 1 - low)) (word_cut n top mid low h l u) ∙ low_part (word_of n top (mid + 1)) (mid + 1 - low) (word_lt n mid low)
@@ -91,10 +91,10 @@ module _ (n low : ℕ) (h : 1 ≤ low) (u : low ≤ 17) where
 
   pub half_high : word_of n 80 low / 2 ^ 64 ≡ word_of n 80 (low + 64)
   half_high =
-      ap (λ (k : ℕ). word_of n 80 low / 2 ^ k) (sym wide) ∙ word-high n 80 (low + 63) low h (omega arith) (omega arith) ∙ ap (word_of n 80) above
+      ap (λ (k : ℕ). word_of n 80 low / 2 ^ k) (sym wide) ∙ word_high n 80 (low + 63) low h (omega arith) (omega arith) ∙ ap (word_of n 80) above
 
-  pub half-low : word_of n 80 low % 2 ^ 64 ≡ word_of n (low + 63) (low + 32) * 2 ^ 32 + word_of n (low + 31) low
-  half-low =
+  pub half_low : word_of n 80 low % 2 ^ 64 ≡ word_of n (low + 63) (low + 32) * 2 ^ 32 + word_of n (low + 31) low
+  half_low =
       ap (λ (k : ℕ). word_of n 80 low % 2 ^ k) (sym wide) ∙ word_low n 80 (low + 63) low h (omega arith) (omega arith)
       ∙ word_cut n (low + 63) (low + 31) low h (omega arith) (omega arith)
       ∙ ap₂ (λ (j k : ℕ). word_of n (low + 63) j * 2 ^ k + word_of n (low + 31) low) middle narrow

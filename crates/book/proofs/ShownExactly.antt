@@ -38,16 +38,16 @@ carrier_good n (inr u) = good_is Odd n (lit≤ tt) ∙ by (leb (word_of n 14 10)
     by false = le-leb 25 (word_of n 14 10) u
 
 module _ (five even odd : ℕ) where
-  shown-needs : is_shown five even odd ≡ true → InRange five even odd
-  shown-needs p =
+  shown_needs : is_shown five even odd ≡ true → InRange five even odd
+  shown_needs p =
       let t = both (is_good Five five && leb 1 (four_years five)) (is_good Even even && is_good Odd odd) (sym (shown_is five even odd) ∙ p) in
       let h = both (is_good Even even) (is_good Odd odd) t.1 in
       let d = day_read five t.0 in
       let s = slot_read even h.0 in
       record { na_least = d.least; na_most = d.most; n4_least = d.stated; n_a_least = s.0; n_a_most = s.1; H = carrier_read odd h.1 }
 
-  shown-where : InRange five even odd → is_shown five even odd ≡ true
-  shown-where r =
+  shown_where : InRange five even odd → is_shown five even odd ≡ true
+  shown_where r =
       rw (
         shown_is five even odd,
         carrier_good odd r.H,
@@ -60,17 +60,17 @@ module _ (five even odd : ℕ) where
         le-leb (word_of even 77 73) 24 r.n_a_most,
       )
 
-  some-needs : SomeEntry (shown_by five even odd) → InRange five even odd
+  some_needs : SomeEntry (shown_by five even odd) → InRange five even odd
   unfolding shown_by
-  some-needs s = by (is_shown five even odd) refl s.is
+  some_needs s = by (is_shown five even odd) refl s.is
     where
       by : (t : Bool) → is_shown five even odd ≡ t → pick t (At (slot_in even) (entry_of (three_of five even odd))) Nothing ≡ At s.slot s.entry → InRange five even odd
-      by true p q = shown-needs p
+      by true p q = shown_needs p
       by false p q = let z : ◌≡◌ {A = ℕ} 0 1 = cc in absurd (omega arith)
 
-  some-where : InRange five even odd → SomeEntry (shown_by five even odd)
+  some_where : InRange five even odd → SomeEntry (shown_by five even odd)
   unfolding shown_by
-  some-where r = record { slot = slot_in even; entry = entry_of (three_of five even odd); is = rw (shown-where r) }
+  some_where r = record { slot = slot_in even; entry = entry_of (three_of five even odd); is = rw (shown_where r) }
 
   entry_shown : (slot : ℕ) (e : Entry) → shown_by five even odd ≡ At slot e → EntryShown five even odd slot e
   unfolding three_of day_of
@@ -84,5 +84,5 @@ module _ (five even odd : ℕ) where
       }
 
   -- SHOWN EXACTLY WHERE ALL WORDS ARE IN RANGE AND N4 IS AT LEAST 1
-  pub shown-exactly : ShownExactly five even odd
-  shown-exactly = record { exactly = (some-needs, some-where); what = entry_shown }
+  pub shown_exactly : ShownExactly five even odd
+  shown_exactly = record { exactly = (some_needs, some_where); what = entry_shown }

@@ -42,14 +42,14 @@ module _ (i : ℕ) (h : i < 1056) where
   passed : T (test i)
   passed = below_at 1056 test all_months i h
 
-  pub next-month : days_to (suc i) ≡ days_to i + length_of (year_of i) (month_of i)
-  next-month = eqb→eq (days_to (suc i)) (days_to i + length_of (year_of i) (month_of i)) (and_left (follows i) (some_days i) passed)
+  pub next_month : days_to (suc i) ≡ days_to i + length_of (year_of i) (month_of i)
+  next_month = eqb→eq (days_to (suc i)) (days_to i + length_of (year_of i) (month_of i)) (and_left (follows i) (some_days i) passed)
 
   counted : T (some_days i)
   counted = and_right (follows i) (some_days i) passed
 
-  has-a-day : 0 < length_of (year_of i) (month_of i)
-  has-a-day = let L = length_of (year_of i) (month_of i) in ltb→lt 0 L (and_left (ltb 0 L) (leb L 31) counted)
+  has_a_day : 0 < length_of (year_of i) (month_of i)
+  has_a_day = let L = length_of (year_of i) (month_of i) in ltb→lt 0 L (and_left (ltb 0 L) (leb L 31) counted)
 
   at_most_31 : length_of (year_of i) (month_of i) ≤ 31
   at_most_31 = let L = length_of (year_of i) (month_of i) in leb→le L 31 (and_right (ltb 0 L) (leb L 31) counted)
@@ -75,10 +75,10 @@ begins : (i : ℕ) → i ≤ 1056 → after (days_to i) start ≡ date (year_of 
 unfolding starts
 begins zero h = refl
 begins (suc i) h =
-    ap (λ (n : ℕ). after n start) (next-month i h)
+    ap (λ (n : ℕ). after n start) (next_month i h)
     ∙ after_sum (days_to i) (length_of (year_of i) (month_of i)) start
     ∙ ap (λ (t : Date). after (length_of (year_of i) (month_of i)) t) (begins i (omega arith))
-    ∙ over (year_of i) (month_of i) (length_of (year_of i) (month_of i)) refl (has-a-day i h)
+    ∙ over (year_of i) (month_of i) (length_of (year_of i) (month_of i)) refl (has_a_day i h)
     ∙ next_first i
 
 -- ---- and a day of month i has this date
@@ -88,7 +88,7 @@ found days i h from to =
     ap (λ (n : ℕ). after n start) sum
     ∙ after_sum (days_to i) (days - days_to i) start
     ∙ ap (λ (t : Date). after (days - days_to i) t) (begins i (omega arith))
-    ∙ within (year_of i) (month_of i) (days - days_to i) (omega (arith, next-month i h))
+    ∙ within (year_of i) (month_of i) (days - days_to i) (omega (arith, next_month i h))
 
 -- 31 December 1995 is the last day of the first four years
 last_of_1995 : after 1460 start ≡ date 1995 12 31
@@ -143,8 +143,8 @@ module _ (n j : ℕ) (h : n ≤ 30681) (m : IsMonth (rest_of n) j) where
   here : date_of n ≡ date (year_of (index_of n j)) (month_of (index_of n j)) (n + 1460 - days_to (index_of n j) + 1)
   here = from_1992 n ∙ found (n + 1460) (index_of n j) few from to
 
-  pub by-table : date_of n ≡ date (1992 + quarter_of n * 4 + j / 12) (j % 12 + 1) (rest_of n - start_of j + 1)
-  by-table =
+  pub by_table : date_of n ≡ date (1992 + quarter_of n * 4 + j / 12) (j % 12 + 1) (rest_of n - start_of j + 1)
+  by_table =
       let y : year_of (index_of n j) ≡ 1992 + quarter_of n * 4 + j / 12 = omega arith in
       let o : month_of (index_of n j) ≡ j % 12 + 1 = omega arith in
       let d : n + 1460 - days_to (index_of n j) + 1 ≡ rest_of n - start_of j + 1 = omega (arith, table_at (quarter_of n) j m.one_of_48, m.from) in
@@ -201,8 +201,8 @@ real_at n j l h m =
       month_least = omega arith;
       month_most = omega arith;
       day_least = omega arith;
-      day_most = omega (arith, next-month i F, from n j h m, to n j h m);
-      at_most_31 = omega (arith, at_most_31 i F, next-month i F, from n j h m, to n j h m);
+      day_most = omega (arith, next_month i F, from n j h m, to n j h m);
+      at_most_31 = omega (arith, at_most_31 i F, next_month i F, from n j h m, to n j h m);
     }
     )
 
@@ -215,7 +215,7 @@ pub later : Later
 unfolding starts
 later =
     record {
-      in_2016 = by-table 7409 3 (lit≤ tt) (record { one_of_48 = lit< tt; from = lit≤ tt; before_next = lit< tt });
-      leap_day = by-table 29280 1 (lit≤ tt) (record { one_of_48 = lit< tt; from = lit≤ tt; before_next = lit< tt });
-      last = by-table 30681 47 (lit≤ tt) (record { one_of_48 = lit< tt; from = lit≤ tt; before_next = lit< tt });
+      in_2016 = by_table 7409 3 (lit≤ tt) (record { one_of_48 = lit< tt; from = lit≤ tt; before_next = lit< tt });
+      leap_day = by_table 29280 1 (lit≤ tt) (record { one_of_48 = lit< tt; from = lit≤ tt; before_next = lit< tt });
+      last = by_table 30681 47 (lit≤ tt) (record { one_of_48 = lit< tt; from = lit≤ tt; before_next = lit< tt });
     }

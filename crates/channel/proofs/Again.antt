@@ -32,7 +32,7 @@ use Rattle.channel.specs.History.{Call, Offer, Reset, frame_after, held_after, R
 use Rattle.channel.specs.Laws.{IsTaken, m_in, start_at, Passes, IsHeld, SameBits, Again}
 use Rattle.channel.proofs.Frames.{present_held}
 use Rattle.channel.proofs.HeldFrame.{held_is}
-use Rattle.channel.proofs.Tested.{all_pass, taken-first, taken-passes, is-present, passed-said}
+use Rattle.channel.proofs.Tested.{all_pass, taken_first, taken_passes, is_present_lem, passed_said}
 
 -- ---- the data are the bits 80..9
 data_bit : (n i : ℕ) → 1 ≤ i → i ≤ 72 → bit_of (data_in n) i ≡ bit_of n (i + 8)
@@ -48,8 +48,8 @@ module _ (a b : ℕ) where
       subst (λ (j : ℕ). bit_of a j ≡ bit_of b j) k
       (sym (data_bit a (i - 8) (omega arith) (omega arith)) ∙ ap (λ (x : ℕ). bit_of x (i - 8)) e ∙ data_bit b (i - 8) (omega arith) (omega arith))
 
-  same-data : ((i : ℕ) → 9 ≤ i → i ≤ 80 → bit_of a i ≡ bit_of b i) → data_in a ≡ data_in b
-  same-data h =
+  same_data : ((i : ℕ) → 9 ≤ i → i ≤ 80 → bit_of a i ≡ bit_of b i) → data_in a ≡ data_in b
+  same_data h =
       bits_same 72 (data_in a) (data_in b) (word_lt a 80 9) (word_lt b 80 9)
       (λ i l u. data_bit a i l u ∙ h (i + 8) (omega arith) (omega arith) ∙ sym (data_bit b i l u))
 
@@ -62,11 +62,11 @@ module _ (row : Row) (epoch : ℕ) (s : List ℕ) (r : Offered) (o : Offers row 
   old = string_in row.strings (m_in s)
 
   -- CONFLICT alone is left
-  nine-left : answer_paper r.answer ≡ answer_of (test 9 (not (eqb (data_in old) (data_in n))) ∷ []) (told_to (frame_of row) epoch s)
-  nine-left =
-      let here = is-present row epoch s p.numbered h in
+  nine_left : answer_paper r.answer ≡ answer_of (test 9 (not (eqb (data_in old) (data_in n))) ∷ []) (told_to (frame_of row) epoch s)
+  nine_left =
+      let here = is_present_lem row epoch s p.numbered h in
       let e = h.0 in
-      passed-said row epoch s r o p
+      passed_said row epoch s r o p
       ∙ rw (
         present_held row.present (m_in s) here,
         le-ltb (start_at epoch s) row.start (omega arith),
@@ -85,13 +85,13 @@ module _ (row : Row) (epoch : ℕ) (s : List ℕ) (r : Offered) (o : Offers row 
       by : (t : Bool) → eqb (data_in old) (data_in n) ≡ t → Again row s r
       by true e =
           let b : SameBits row s 80 9 = same_bits old n (eqb-true (data_in old) (data_in n) e) in
-          record { taken = ((λ t. b), (λ u. ap (λ (l : List ℕ). get_or l 0 0) (nine-left ∙ ap nine e))); conflict = λ u. absurd (u b) }
+          record { taken = ((λ t. b), (λ u. ap (λ (l : List ℕ). get_or l 0 0) (nine_left ∙ ap nine e))); conflict = λ u. absurd (u b) }
       by false e =
-          let w = nine-left ∙ ap nine e in
+          let w = nine_left ∙ ap nine e in
           record {
             taken = (
               (λ t. let z : ◌≡◌ {A = ℕ} 0 9 = sym t ∙ ap (λ (l : List ℕ). get_or l 0 0) w in absurd (omega arith)),
-              (λ b. absurd (eqb-false (data_in old) (data_in n) e (same-data old n b))),
+              (λ b. absurd (eqb-false (data_in old) (data_in n) e (same_data old n b))),
             );
             conflict = λ u. w;
           }
@@ -163,11 +163,11 @@ kept_once m a b k l e =
 pub held_same : (cs : List Call) (row : Row) (epoch : ℕ) (s : List ℕ) (r : Offered) → Runs cs row → Offers row epoch s r → IsTaken r → IsHeld row epoch s
     → SameBits row s 85 1
 held_same cs row epoch s r run o t h i l u =
-    let p = taken-passes row epoch s r o t in
-    let here = is-present row epoch s p.numbered h in
+    let p = taken_passes row epoch s r o t in
+    let here = is_present_lem row epoch s p.numbered h in
     let f = held_is cs row run in
     let k : Kept (m_in s) (string_in row.strings (m_in s)) =
     rw here at (subst AllKept (sym f) (all_kept cs) (m_in s) here)
     in
-    let d = same-data (string_in row.strings (m_in s)) (whole_of s) ((again row epoch s r o p h).taken.0 t) in
-    ap (λ (x : ℕ). bit_of x i) (kept_once (m_in s) (string_in row.strings (m_in s)) (whole_of s) k (taken_kept (frame_of row) epoch s (taken-first row epoch s r o t)) d)
+    let d = same_data (string_in row.strings (m_in s)) (whole_of s) ((again row epoch s r o p h).taken.0 t) in
+    ap (λ (x : ℕ). bit_of x i) (kept_once (m_in s) (string_in row.strings (m_in s)) (whole_of s) k (taken_kept (frame_of row) epoch s (taken_first row epoch s r o t)) d)

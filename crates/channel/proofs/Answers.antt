@@ -81,17 +81,17 @@ module _ (place : List ℕ) (m : ℕ) (v : Verdict) (w : News) where
   abbrev Places : Placed → ℕ → Type 0
   Places a k = placed_paper a ≡ said_by k place (told_as m v w)
 
-  pub tells-by : (a : Placed) (k : ℕ) → Places a k → tells_record a ≡ pick (eqb k 0) (is_built w) false
-  tells-by (IsPlaced i x y) zero e = ap tells_record (sym (placed_by_lem i x y) ∙ ap placed_by e ∙ placed_by_lem m v w)
-  tells-by (NotPlaced q) zero e = absurd (not_taken q _ e)
-  tells-by (IsPlaced i x y) (suc k) e = let z : ◌≡◌ {A = ℕ} 0 (suc k) = ap (λ (l : List ℕ). get_or l 0 0) e in absurd (omega arith)
-  tells-by (NotPlaced q) (suc k) e = rw (ne_eqb (suc k) 0 (λ z. omega arith))
+  pub tells_by : (a : Placed) (k : ℕ) → Places a k → tells_record a ≡ pick (eqb k 0) (is_built w) false
+  tells_by (IsPlaced i x y) zero e = ap tells_record (sym (placed_by_lem i x y) ∙ ap placed_by e ∙ placed_by_lem m v w)
+  tells_by (NotPlaced q) zero e = absurd (not_taken q _ e)
+  tells_by (IsPlaced i x y) (suc k) e = let z : ◌≡◌ {A = ℕ} 0 (suc k) = ap (λ (l : List ℕ). get_or l 0 0) e in absurd (omega arith)
+  tells_by (NotPlaced q) (suc k) e = rw (ne_eqb (suc k) 0 (λ z. omega arith))
 
   module _ (p : Polarity) where
     abbrev Says : Answer → ℕ → Type 0
     Says a k = answer_paper a ≡ said_by k place (told_as m v w ++ (polarity_number p ∷ []))
 
-    pub counts-by : (a : Answer) (k : ℕ) → Says a k → outcome_of a ≡ pick (eqb k 0) (TAKEN v) (REFUSED k)
-    counts-by a zero e = ap outcome_of (answer_same a (Taken m v w p) e)
-    counts-by (Taken i x y q) (suc k) e = let z : ◌≡◌ {A = ℕ} 0 (suc k) = ap (λ (l : List ℕ). get_or l 0 0) e in absurd (omega arith)
-    counts-by (Refused q) (suc k) e = rw (ne_eqb (suc k) 0 (λ z. omega arith)) (ap (λ (l : List ℕ). REFUSED (get_or l 0 0)) e)
+    pub counts_by : (a : Answer) (k : ℕ) → Says a k → outcome_of a ≡ pick (eqb k 0) (TAKEN v) (REFUSED k)
+    counts_by a zero e = ap outcome_of (answer_same a (Taken m v w p) e)
+    counts_by (Taken i x y q) (suc k) e = let z : ◌≡◌ {A = ℕ} 0 (suc k) = ap (λ (l : List ℕ). get_or l 0 0) e in absurd (omega arith)
+    counts_by (Refused q) (suc k) e = rw (ne_eqb (suc k) 0 (λ z. omega arith)) (ap (λ (l : List ℕ). REFUSED (get_or l 0 0)) e)

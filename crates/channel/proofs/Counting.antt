@@ -28,7 +28,7 @@ use Rattle.channel.specs.Row.{frame_of, counted}
 use Rattle.hearing.specs.Hears.{whole_of, verdict_in}
 use Rattle.channel.specs.Offers.{told_as, number_said, outcome_of, is_taken, OnlyCounted, TakenCounted, taken_row, offer_tests, Offers}
 use Rattle.channel.specs.Laws.{TenAreAll}
-use Rattle.channel.proofs.Answers.{counts-by}
+use Rattle.channel.proofs.Answers.{counts_by}
 use Rattle.channel.proofs.HeldFrame.{offered_is, said_by_lem, first_said, taken_exactly}
 
 -- ---- THE TEN ARE ALL
@@ -55,9 +55,9 @@ ten_are_all f epoch s =
 -- ---- A REFUSED OFFER CHANGES NOTHING BUT THREE TALLIES
 -- the tallies of a refusal with one of the ten
 module _ (number : ℕ) (among : is_one_of causes number ≡ true) (row : Row) where
-  only-counted : OnlyCounted number row (counted (Refused number) row)
+  only_counted : OnlyCounted number row (counted (Refused number) row)
   unfolding counted
-  only-counted =
+  only_counted =
       record {
         strings = refl;
         start = refl;
@@ -75,25 +75,25 @@ module _ (number : ℕ) (among : is_one_of causes number ≡ true) (row : Row) w
       }
 
 module _ (row : Row) (epoch : ℕ) (s : List ℕ) (r : Offered) (o : Offers row epoch s r) where
-  abbrev theFirst : ℕ
-  theFirst = first_of (offer_tests (frame_of row) epoch s)
+  abbrev the_first : ℕ
+  the_first = first_of (offer_tests (frame_of row) epoch s)
 
   -- the number that was answered is that of the first test that fits
-  first-answered : number_said r.answer ≡ theFirst
-  first-answered = ap (λ (l : List ℕ). get_or l 0 0) (said_by_lem row epoch s r o) ∙ first_said (offer_tests (frame_of row) epoch s) _
+  first_answered : number_said r.answer ≡ the_first
+  first_answered = ap (λ (l : List ℕ). get_or l 0 0) (said_by_lem row epoch s r o) ∙ first_said (offer_tests (frame_of row) epoch s) _
 
   -- the row by whether it is taken
-  left_by_lem : (t : Bool) → is_taken r.answer ≡ t → r.row ≡ counted (pick t (Taken (verdict_in s)) (Refused theFirst)) (pick t (taken_row row epoch (whole_of s)) row)
+  left_by_lem : (t : Bool) → is_taken r.answer ≡ t → r.row ≡ counted (pick t (Taken (verdict_in s)) (Refused the_first)) (pick t (taken_row row epoch (whole_of s)) row)
   left_by_lem t n =
       offered_is row epoch s r o
-      ∙ ap (λ (t : Bool). counted (pick t (Taken (verdict_in s)) (Refused theFirst)) (pick t (taken_row row epoch (whole_of s)) row)) (sym (taken_exactly row epoch s r o) ∙ n)
+      ∙ ap (λ (t : Bool). counted (pick t (Taken (verdict_in s)) (Refused the_first)) (pick t (taken_row row epoch (whole_of s)) row)) (sym (taken_exactly row epoch s r o) ∙ n)
 
-  pub refused-only : is_taken r.answer ≡ false → OnlyCounted (number_said r.answer) row r.row
-  refused-only n =
-      let refused : eqb theFirst 0 ≡ false = sym (taken_exactly row epoch s r o) ∙ n in
-      subst (λ (k : ℕ). OnlyCounted k row r.row) (sym first-answered)
-      (subst (OnlyCounted theFirst row) (sym (left_by_lem false n))
-      (⊎_elim (λ z. absurd (true≢false (sym (eq-eqb theFirst 0 z) ∙ refused))) (λ (c : OneCause theFirst). only-counted theFirst c.among row)
+  pub refused_only : is_taken r.answer ≡ false → OnlyCounted (number_said r.answer) row r.row
+  refused_only n =
+      let refused : eqb the_first 0 ≡ false = sym (taken_exactly row epoch s r o) ∙ n in
+      subst (λ (k : ℕ). OnlyCounted k row r.row) (sym first_answered)
+      (subst (OnlyCounted the_first row) (sym (left_by_lem false n))
+      (⊎_elim (λ z. absurd (true≢false (sym (eq-eqb the_first 0 z) ∙ refused))) (λ (c : OneCause the_first). only_counted the_first c.among row)
       (ten_are_all (frame_of row) epoch s)))
 
   -- ---- A TAKEN OFFER MOVES NO CAUSE
@@ -101,14 +101,14 @@ module _ (row : Row) (epoch : ℕ) (s : List ℕ) (r : Offered) (o : Offers row 
   taken_as n =
       let tests = offer_tests (frame_of row) epoch s in
       let w = news_of (frame_of row) epoch (whole_of s) in
-      let told : ℕ → List ℕ = λ (b : ℕ). said_by theFirst (place_of tests) (told_as (number_in (whole_of s)) (verdict_in s) w ++ (b ∷ [])) in
-      counts-by (place_of tests) (number_in (whole_of s)) (verdict_in s) w (polarity_of (number_of s)) r.answer theFirst
+      let told : ℕ → List ℕ = λ (b : ℕ). said_by the_first (place_of tests) (told_as (number_in (whole_of s)) (verdict_in s) w ++ (b ∷ [])) in
+      counts_by (place_of tests) (number_in (whole_of s)) (verdict_in s) w (polarity_of (number_of s)) r.answer the_first
       (said_by_lem row epoch s r o ∙ ap told (sym (polarity_told (number_of s))))
-      ∙ ap (λ (t : Bool). pick t (Taken (verdict_in s)) (Refused theFirst)) (sym (taken_exactly row epoch s r o) ∙ n)
+      ∙ ap (λ (t : Bool). pick t (Taken (verdict_in s)) (Refused the_first)) (sym (taken_exactly row epoch s r o) ∙ n)
 
-  pub taken-counted : is_taken r.answer ≡ true → TakenCounted r.answer row.tallies r.row.tallies
+  pub taken_counted : is_taken r.answer ≡ true → TakenCounted r.answer row.tallies r.row.tallies
   unfolding counted taken_row causes_after
-  taken-counted n =
+  taken_counted n =
       subst (λ (x : Row). TakenCounted r.answer row.tallies x.tallies) (sym (left_by_lem true n))
       (record {
         offered = refl;

@@ -64,8 +64,8 @@ polarity_in f epoch s =
 
 module _ (s t : List ℕ) (e : Turned s t) where
   -- the tests and the row do not see it
-  pub row-turned : (row : Row) (epoch : ℕ) → offered_row row epoch t ≡ offered_row row epoch s
-  row-turned row epoch = rw (e.shape, e.plain) refl
+  pub row_turned : (row : Row) (epoch : ℕ) → offered_row row epoch t ≡ offered_row row epoch s
+  row_turned row epoch = rw (e.shape, e.plain) refl
 
   module _ (row : Row) (epoch : ℕ) (r q : Offered) (o : Offers row epoch s r) (p : Offers row epoch t q) where
     answer-turned : q.answer ≡ other_way r.answer
@@ -78,10 +78,10 @@ module _ (s t : List ℕ) (e : Turned s t) where
         (said_by_lem row epoch s r o ∙ ap (answer_of ts) (polarity_in f epoch s))
         (rw (e.shape, e.plain) at (said_by_lem row epoch t q p ∙ ap (answer_of (offer_tests f epoch t)) (polarity_in f epoch t)))
 
-    pub turned-way : EitherWay r q
-    turned-way = record { answer = answer-turned; left = offered_is row epoch t q p ∙ row-turned row epoch ∙ sym (offered_is row epoch s r o) }
+    pub turned_way : EitherWay r q
+    turned_way = record { answer = answer-turned; left = offered_is row epoch t q p ∙ row_turned row epoch ∙ sym (offered_is row epoch s r o) }
 
 -- OFFERED UPRIGHT OR INVERTED
 pub either_way : (row : Row) (epoch x : ℕ) (r q : Offered) → x < 2 ^ 85 → Offers row epoch (bytes_of_string x) r → Offers row epoch (bytes_of_string (inverse x)) q
     → EitherWay r q
-either_way row epoch x r q h o p = turned-way (bytes_of_string x) (bytes_of_string (inverse x)) (inverse_turned x h) row epoch r q o p
+either_way row epoch x r q h o p = turned_way (bytes_of_string x) (bytes_of_string (inverse x)) (inverse_turned x h) row epoch r q o p

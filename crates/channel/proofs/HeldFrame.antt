@@ -25,8 +25,8 @@ use Rattle.channel.specs.Row.{Held, frame_in, held_of, frame_of, empty_row, new_
 use Rattle.hearing.specs.Hears.{whole_of}
 use Rattle.channel.specs.Offers.{answer_paper, is_taken, taken_row, offer_tests, Offers, offered_row}
 use Rattle.channel.specs.History.{Call, frame_after, held_after, said_to, Runs, fresh, offering, resetting}
-use Rattle.channel.proofs.Frames.{stored-frame, empty_frame_lem, held_for_lem}
-use Rattle.hearing.proofs.Hearing.{whole_lt, heard-first}
+use Rattle.channel.proofs.Frames.{stored_frame, empty_frame_lem, held_for_lem}
+use Rattle.hearing.proofs.Hearing.{whole_lt, heard_first}
 
 -- ---- the string of an offer
 -- a taken string has a number
@@ -34,7 +34,7 @@ pub taken_numbered : (f : Frame) (epoch : ℕ) (s : List ℕ) → first_of (offe
 taken_numbered f epoch s e =
     let n = number_in (whole_of s) in
     let ts = place_tests f epoch (whole_of s) in
-    let z : n ≡ 0 → ⊥ = eqb-false n 0 (past_first 4 (eqb n 0) (drop 1 ts) (heard-first s ts e).1.1).0 in
+    let z : n ≡ 0 → ⊥ = eqb-false n 0 (past_first 4 (eqb n 0) (drop 1 ts) (heard_first s ts e).1.1).0 in
     lt_of_le-ne (omega arith) (λ q. z (sym q))
 
 -- ---- what a taken string leaves
@@ -48,24 +48,24 @@ for_long h start long = by (is_of_frame (frame_in h) start)
     by false = length-replicate {A = ℕ} 165 0
 
 module _ (h : Held) (epoch n : ℕ) (long : length h.bytes ≡ 165) where
-  placed-long : length (held_with h epoch n).bytes ≡ 165
+  placed_long : length (held_with h epoch n).bytes ≡ 165
   unfolding held_with stored
-  placed-long = by (is_here (frame_in h) epoch n)
+  placed_long = by (is_here (frame_in h) epoch n)
     where
       by : (t : Bool) → length (pick t h (stored (held_for h (start_of epoch n)) n)).bytes ≡ 165
       by true = long
       by false = length-sets (held_for h (start_of epoch n)).bytes _ (bytes_of_string n) ∙ for_long h (start_of epoch n) long
 
   -- the frame with the string is held
-  placed-frame : n < 2 ^ 85 → 1 ≤ number_in n → frame_in (held_with h epoch n) ≡ after_string (frame_in h) epoch n
+  placed_frame : n < 2 ^ 85 → 1 ≤ number_in n → frame_in (held_with h epoch n) ≡ after_string (frame_in h) epoch n
   unfolding held_with
-  placed-frame small least = by (is_here (frame_in h) epoch n)
+  placed_frame small least = by (is_here (frame_in h) epoch n)
     where
       by : (t : Bool) → frame_in (pick t h (stored (held_for h (start_of epoch n)) n))
           ≡ pick t (frame_in h) (with_string (frame_for (frame_in h) (start_of epoch n)) n)
       by true = refl
       by false =
-          stored-frame (held_for h (start_of epoch n)) n (for_long h (start_of epoch n) long) small least ∙ ap (λ (f : Frame). with_string f n) (held_for_lem h (start_of epoch n))
+          stored_frame (held_for h (start_of epoch n)) n (for_long h (start_of epoch n) long) small least ∙ ap (λ (f : Frame). with_string f n) (held_for_lem h (start_of epoch n))
 
 -- ---- the row that an offer leaves
 pub offered_is : (row : Row) (epoch : ℕ) (s : List ℕ) (r : Offered) → Offers row epoch s r → r.row ≡ offered_row row epoch s
@@ -77,23 +77,23 @@ unfolding Offers
 said_by_lem row epoch s r o = o.answer
 
 module _ (row : Row) (epoch : ℕ) (s : List ℕ) (long : length row.strings ≡ 165) where
-  pub offered-long : length (offered_row row epoch s).strings ≡ 165
+  pub offered_long : length (offered_row row epoch s).strings ≡ 165
   unfolding counted taken_row
-  offered-long = by (eqb (first_of (offer_tests (frame_of row) epoch s)) 0)
+  offered_long = by (eqb (first_of (offer_tests (frame_of row) epoch s)) 0)
     where
       by : (t : Bool) → length (pick t (taken_row row epoch (whole_of s)) row).strings ≡ 165
-      by true = placed-long (held_of row) epoch (whole_of s) long
+      by true = placed_long (held_of row) epoch (whole_of s) long
       by false = long
 
   -- THE ROW'S FRAME MOVES AS THE RULES SAY, from any row
-  pub frame-after : frame_of (offered_row row epoch s) ≡ frame_after (frame_of row) epoch s
+  pub frame_after_lem : frame_of (offered_row row epoch s) ≡ frame_after (frame_of row) epoch s
   unfolding counted taken_row
-  frame-after = by (eqb (first_of (offer_tests (frame_of row) epoch s)) 0) refl
+  frame_after_lem = by (eqb (first_of (offer_tests (frame_of row) epoch s)) 0) refl
     where
       by : (t : Bool) → eqb (first_of (offer_tests (frame_of row) epoch s)) 0 ≡ t
           → frame_of (pick t (taken_row row epoch (whole_of s)) row) ≡ pick t (after_string (frame_of row) epoch (whole_of s)) (frame_of row)
       by true e =
-          placed-frame (held_of row) epoch (whole_of s) long (whole_lt s)
+          placed_frame (held_of row) epoch (whole_of s) long (whole_lt s)
           (taken_numbered (frame_of row) epoch s (eqb-true (first_of (offer_tests (frame_of row) epoch s)) 0 e))
       by false e = refl
 
@@ -126,7 +126,7 @@ empty_long = length-replicate {A = ℕ} 165 0
 pub runs_long : (cs : List Call) (row : Row) → Runs cs row → length row.strings ≡ 165
 runs_long cs row fresh = empty_long
 runs_long cs row (offering epoch s ds before r run o) =
-    ap (λ (x : Row). length x.strings) (offered_is before epoch s r o) ∙ offered-long before epoch s (runs_long ds before run)
+    ap (λ (x : Row). length x.strings) (offered_is before epoch s r o) ∙ offered_long before epoch s (runs_long ds before run)
 runs_long cs row (resetting ds before run) = empty_long
 
 -- THE ROW'S FRAME IS THE HISTORY'S
@@ -134,7 +134,7 @@ pub held_is : (cs : List Call) (row : Row) → Runs cs row → frame_of row ≡ 
 unfolding held_after
 held_is cs row fresh = empty_frame_lem
 held_is cs row (offering epoch s ds before r run o) =
-    ap frame_of (offered_is before epoch s r o) ∙ frame-after before epoch s (runs_long ds before run)
+    ap frame_of (offered_is before epoch s r o) ∙ frame_after_lem before epoch s (runs_long ds before run)
     ∙ ap (λ (f : Frame). frame_after f epoch s) (held_is ds before run)
 held_is cs row (resetting ds before run) = empty_frame_lem
 

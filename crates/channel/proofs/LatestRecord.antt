@@ -29,9 +29,9 @@ use Rattle.channel.specs.Row.{is_present, Held, frame_in, held_of, frame_of, emp
 use Rattle.hearing.specs.Hears.{whole_of}
 use Rattle.channel.specs.Offers.{taken_row, offer_tests, offered_row}
 use Rattle.channel.specs.History.{Call, Offer, Reset, held_after, makes_record, four_of, of_latest, record_after, record_start, LeftSince, latest, before, SomeMoment, Runs, fresh, offering, resetting}
-use Rattle.channel.proofs.Frames.{stored-frame, held_for_lem}
+use Rattle.channel.proofs.Frames.{stored_frame, held_for_lem}
 use Rattle.hearing.proofs.Hearing.{whole_lt}
-use Rattle.channel.proofs.HeldFrame.{taken_numbered, for_long, offered_is, runs_long, held_is, frame-after}
+use Rattle.channel.proofs.HeldFrame.{taken_numbered, for_long, offered_is, runs_long, held_is, frame_after_lem}
 
 -- ---- four strings kept
 -- the first four strings are those of the first 44 bytes
@@ -49,45 +49,45 @@ module _ (h : Held) (long : length h.bytes ≡ 165) (c : is_complete (frame_in h
   has_one : is_present h.mask 1 ≡ true
   has_one = (both (is_present h.mask 1) _ c).0
 
-  has-two : is_present h.mask 2 ≡ true
-  has-two = (both (is_present h.mask 2) _ (both (is_present h.mask 1) _ c).1).0
+  has_two : is_present h.mask 2 ≡ true
+  has_two = (both (is_present h.mask 2) _ (both (is_present h.mask 1) _ c).1).0
 
   has_rest : (is_present h.mask 3 && is_present h.mask 4) ≡ true
   has_rest = (both (is_present h.mask 2) _ (both (is_present h.mask 1) _ c).1).1
 
-  text-is : (j : ℕ) → j < 4 → is_present h.mask (j + 1) ≡ true → string_at (take 44 h.bytes) j ≡ (frame_in h).text (j + 1)
-  text-is j l p =
+  text_is : (j : ℕ) → j < 4 → is_present h.mask (j + 1) ≡ true → string_at (take 44 h.bytes) j ≡ (frame_in h).text (j + 1)
+  text_is j l p =
       let e : j + 1 - 1 ≡ j = omega arith in
       string_of_four h.bytes j long l ∙ rw p (ap (string_at h.bytes) (sym e))
 
   -- a record built is the frame's four strings, and is held where they are in range
-  built-four : kept_four (built_from h.start h.bytes) ≡ four_of (frame_in h)
-  built-four =
+  built_four : kept_four (built_from h.start h.bytes) ≡ four_of (frame_in h)
+  built_four =
       let three = both (is_present h.mask 3) (is_present h.mask 4) has_rest in
-      ap₂ (λ (x y : ℕ). x ∷ y ∷ string_at (take 44 h.bytes) 2 ∷ string_at (take 44 h.bytes) 3 ∷ []) (text-is 0 (lit< tt) has_one) (text-is 1 (lit< tt) has-two)
-      ∙ ap₂ (λ (x y : ℕ). (frame_in h).text 1 ∷ (frame_in h).text 2 ∷ x ∷ y ∷ []) (text-is 2 (lit< tt) three.0) (text-is 3 (lit< tt) three.1)
+      ap₂ (λ (x y : ℕ). x ∷ y ∷ string_at (take 44 h.bytes) 2 ∷ string_at (take 44 h.bytes) 3 ∷ []) (text_is 0 (lit< tt) has_one) (text_is 1 (lit< tt) has_two)
+      ∙ ap₂ (λ (x y : ℕ). (frame_in h).text 1 ∷ (frame_in h).text 2 ∷ x ∷ y ∷ []) (text_is 2 (lit< tt) three.0) (text_is 3 (lit< tt) three.1)
 
-  built-held : has_record (built_from h.start h.bytes) ≡ is_readable (frame_in h)
+  built_held : has_record (built_from h.start h.bytes) ≡ is_readable (frame_in h)
   unfolding has_record
-  built-held =
+  built_held =
       let three = both (is_present h.mask 3) (is_present h.mask 4) has_rest in
-      ap₂ (λ (x y : ℕ). four_good x y (string_at (take 44 h.bytes) 2) (string_at (take 44 h.bytes) 3)) (text-is 0 (lit< tt) has_one) (text-is 1 (lit< tt) has-two)
-      ∙ ap₂ (λ (x y : ℕ). four_good ((frame_in h).text 1) ((frame_in h).text 2) x y) (text-is 2 (lit< tt) three.0) (text-is 3 (lit< tt) three.1)
+      ap₂ (λ (x y : ℕ). four_good x y (string_at (take 44 h.bytes) 2) (string_at (take 44 h.bytes) 3)) (text_is 0 (lit< tt) has_one) (text_is 1 (lit< tt) has_two)
+      ∙ ap₂ (λ (x y : ℕ). four_good ((frame_in h).text 1) ((frame_in h).text 2) x y) (text_is 2 (lit< tt) three.0) (text_is 3 (lit< tt) three.1)
 
   built : is_readable (frame_in h) ≡ true → record_in (built_from h.start h.bytes) ≡ four_of (frame_in h)
   unfolding record_in
-  built r = rw (built-held ∙ r) built-four
+  built r = rw (built_held ∙ r) built_four
 
 -- ---- a string above 4 leaves strings 1..4 as they were
 module _ (g : Frame) (n : ℕ) (above : leb (number_in n) 4 ≡ false) where
-  not-it : (k : ℕ) → k ≤ 4 → eqb k (number_in n) ≡ false
-  not-it k h = let a : 4 < number_in n = leb-false (number_in n) 4 above in ne_eqb k (number_in n) (λ e. omega arith)
+  not_it : (k : ℕ) → k ≤ 4 → eqb k (number_in n) ≡ false
+  not_it k h = let a : 4 < number_in n = leb-false (number_in n) 4 above in ne_eqb k (number_in n) (λ e. omega arith)
 
-  pub later-makes : makes_record (with_string g n) ≡ makes_record g
-  later-makes = rw (not-it 1 (omega arith), not-it 2 (omega arith), not-it 3 (omega arith), not-it 4 (omega arith))
+  pub later_makes : makes_record (with_string g n) ≡ makes_record g
+  later_makes = rw (not_it 1 (omega arith), not_it 2 (omega arith), not_it 3 (omega arith), not_it 4 (omega arith))
 
-  later-four : four_of (with_string g n) ≡ four_of g
-  later-four = rw (not-it 1 (omega arith), not-it 2 (omega arith), not-it 3 (omega arith), not-it 4 (omega arith))
+  later_four : four_of (with_string g n) ≡ four_of g
+  later_four = rw (not_it 1 (omega arith), not_it 2 (omega arith), not_it 3 (omega arith), not_it 4 (omega arith))
 
 -- a history whose frame now makes a record has that frame's
 pub record_now : {X : Type 0} (none : X) (of : Frame → X) (cs : List Call) → makes_record (held_after cs) ≡ true → of_latest none of cs ≡ of (held_after cs)
@@ -105,11 +105,11 @@ module _ (X : Type 0) (none : X) (shown : Immediate → X) (of : Frame → X) (e
   UpToDate row = makes_record (frame_of row) ≡ true → shown row.immediate ≡ of (frame_of row)
 
   -- what the record ought to show then
-  abbrev next-shown : Row → Frame → X
-  next-shown row f = pick (makes_record f) (of f) (shown row.immediate)
+  abbrev next_shown : Row → Frame → X
+  next_shown row f = pick (makes_record f) (of f) (shown row.immediate)
 
   -- where the frame stays, so does the record
-  same_record : (row : Row) → UpToDate row → shown row.immediate ≡ next-shown row (frame_of row)
+  same_record : (row : Row) → UpToDate row → shown row.immediate ≡ next_shown row (frame_of row)
   same_record row u = by (makes_record (frame_of row)) refl
     where
       by : (t : Bool) → makes_record (frame_of row) ≡ t → shown row.immediate ≡ pick t (of (frame_of row)) (shown row.immediate)
@@ -131,7 +131,7 @@ module _ (X : Type 0) (none : X) (shown : Immediate → X) (of : Frame → X) (e
 
     next-frame : frame_in next ≡ whole
     next-frame =
-        stored-frame (held_for (held_of row) (start_of epoch n)) n (for_long (held_of row) (start_of epoch n) long) small least
+        stored_frame (held_for (held_of row) (start_of epoch n)) n (for_long (held_of row) (start_of epoch n) long) small least
         ∙ ap (λ (f : Frame). with_string f n) (held_for_lem (held_of row) (start_of epoch n))
 
     next-long : length next.bytes ≡ 165
@@ -140,14 +140,14 @@ module _ (X : Type 0) (none : X) (shown : Immediate → X) (of : Frame → X) (e
 
     -- where it is above 4 and the frame makes a record, it did so before
     before-it : leb (number_in n) 4 ≡ false → makes_record whole ≡ true → shown row.immediate ≡ of whole
-    before-it a m = by (is_of_frame (frame_of row) (start_of epoch n)) (sym (later-makes joined n a) ∙ m) ∙ sym (Later-same joined n a)
+    before-it a m = by (is_of_frame (frame_of row) (start_of epoch n)) (sym (later_makes joined n a) ∙ m) ∙ sym (Later-same joined n a)
       where
         by : (t : Bool) → makes_record (pick t (frame_of row) (empty_frame (start_of epoch n))) ≡ true
             → shown row.immediate ≡ of (pick t (frame_of row) (empty_frame (start_of epoch n)))
         by true e = u e
         by false e = absurd (false≢true e)
 
-    new-record : shown (record_by (is_built (news_at whole (number_in n))) next.start next.bytes row.immediate) ≡ next-shown row whole
+    new-record : shown (record_by (is_built (news_at whole (number_in n))) next.start next.bytes row.immediate) ≡ next_shown row whole
     new-record = by (leb (number_in n) 4) (is_complete whole) (is_readable whole) refl refl refl
       where
         by : (l c r : Bool) → leb (number_in n) 4 ≡ l → is_complete whole ≡ c → is_readable whole ≡ r
@@ -171,40 +171,40 @@ module _ (X : Type 0) (none : X) (shown : Immediate → X) (of : Frame → X) (e
     next-held t = pick t (held_of row) (stored (held_for (held_of row) (start_of epoch (whole_of s))) (whole_of s))
 
     taken-record : 1 ≤ number_in (whole_of s)
-        → shown (taken_row row epoch (whole_of s)).immediate ≡ next-shown row (pick (is_here (frame_of row) epoch (whole_of s)) (frame_of row) more)
+        → shown (taken_row row epoch (whole_of s)).immediate ≡ next_shown row (pick (is_here (frame_of row) epoch (whole_of s)) (frame_of row) more)
     unfolding taken_row held_with
     taken-record least = by (is_here (frame_of row) epoch (whole_of s))
       where
         by : (t : Bool)
             → shown (record_by (is_built (pick t AlreadyHeld (news_at more (number_in (whole_of s))))) (next-held t).start (next-held t).bytes row.immediate)
-            ≡ next-shown row (pick t (frame_of row) more)
+            ≡ next_shown row (pick t (frame_of row) more)
         by true = same_record row u
         by false = new-record row epoch (whole_of s) long (whole_lt s) least u
 
-    record-after : shown (offered_row row epoch s).immediate ≡ next-shown row (frame_of (offered_row row epoch s))
+    record-after : shown (offered_row row epoch s).immediate ≡ next_shown row (frame_of (offered_row row epoch s))
     unfolding counted
-    record-after = by (eqb (first_of (offer_tests (frame_of row) epoch s)) 0) refl ∙ ap (next-shown row) (sym (frame-after row epoch s long))
+    record-after = by (eqb (first_of (offer_tests (frame_of row) epoch s)) 0) refl ∙ ap (next_shown row) (sym (frame_after_lem row epoch s long))
       where
         by : (t : Bool) → eqb (first_of (offer_tests (frame_of row) epoch s)) 0 ≡ t
             → shown (pick t (taken_row row epoch (whole_of s)) row).immediate
-            ≡ next-shown row (pick t (pick (is_here (frame_of row) epoch (whole_of s)) (frame_of row) more) (frame_of row))
+            ≡ next_shown row (pick t (pick (is_here (frame_of row) epoch (whole_of s)) (frame_of row) more) (frame_of row))
         by true e = taken-record (taken_numbered (frame_of row) epoch s (eqb-true (first_of (offer_tests (frame_of row) epoch s)) 0 e))
         by false e = same_record row u
 
   -- ---- over a history
-  latest-is : (cs : List Call) (row : Row) → Runs cs row → shown row.immediate ≡ of_latest none of cs
+  latest_is : (cs : List Call) (row : Row) → Runs cs row → shown row.immediate ≡ of_latest none of cs
   unfolding of_latest
-  latest-is cs row fresh = empty
-  latest-is cs row (offering epoch s ds prior r run o) =
+  latest_is cs row fresh = empty
+  latest_is cs row (offering epoch s ds prior r run o) =
       let h = held_is ds prior run in
-      let i = latest-is ds prior run in
+      let i = latest_is ds prior run in
       let u : UpToDate prior = (λ e. i ∙ record_now none of ds (ap makes_record (sym h) ∙ e) ∙ ap of (sym h)) in
       let f : frame_of (offered_row prior epoch s) ≡ held_after (Offer epoch s ∷ ds) =
       ap frame_of (sym (offered_is prior epoch s r o)) ∙ held_is (Offer epoch s ∷ ds) r.row (offering epoch s ds prior r run o)
       in
       ap (λ (x : Row). shown x.immediate) (offered_is prior epoch s r o) ∙ record-after prior epoch s (runs_long ds prior run) u
       ∙ ap₂ (λ (x : Frame) (l : X). pick (makes_record x) (of x) l) f i
-  latest-is cs row (resetting ds prior run) = empty
+  latest_is cs row (resetting ds prior run) = empty
 
 -- a reset row has none, and starts at 0
 no_record : record_in empty_row.immediate ≡ []
@@ -217,11 +217,11 @@ no_start = refl
 
 -- THE ROW'S RECORD IS THE HISTORY'S
 pub record_is : (cs : List Call) (row : Row) → Runs cs row → record_in row.immediate ≡ record_after cs
-record_is = latest-is (List ℕ) [] record_in four_of no_record built later-four
+record_is = latest_is (List ℕ) [] record_in four_of no_record built later_four
 
 -- AND SO IS ITS START
 pub start_is : (cs : List Call) (row : Row) → Runs cs row → row.immediate.start ≡ record_start cs
-start_is = latest-is ℕ 0 (λ (i : Immediate). i.start) (λ (f : Frame). f.start) no_start (λ h l c r. refl) (λ g n a. refl)
+start_is = latest_is ℕ 0 (λ (i : Immediate). i.start) (λ (f : Frame). f.start) no_start (λ h l c r. refl) (λ g n a. refl)
 
 -- ---- when there is one
 -- a list with an element is not empty

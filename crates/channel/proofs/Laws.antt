@@ -1,6 +1,6 @@
 -- The laws of an offer, whole. Assumes nothing.
 use Rattle.channel.specs.Laws.{AllLaws}
-use Rattle.channel.proofs.Tested.{taken-passes}
+use Rattle.channel.proofs.Tested.{taken_passes}
 use Rattle.channel.proofs.Starts.{starts}
 use Rattle.channel.proofs.NewsTold.{news}
 use Rattle.channel.proofs.ZeroStrings.{new_frame_lem, absent_zero}
@@ -13,7 +13,7 @@ pub laws : AllLaws
 laws =
     record {
       offers = λ row epoch s r long o. record {
-        passes = taken-passes row epoch s r o;
+        passes = taken_passes row epoch s r o;
         starts = starts row epoch s r o;
         new_frame_lem = new_frame_lem row epoch s r long o;
         again = again row epoch s r o;

@@ -25,8 +25,8 @@ use Rattle.channel.specs.Row.{frame_of}
 use Rattle.channel.specs.Offers.{news_number, told_as, Offers}
 use Rattle.channel.specs.Laws.{said, IsTaken, m_in, IsHeld, FourPresent, Completes, NewsTold}
 use Rattle.channel.proofs.Four.{low_four, news_is}
-use Rattle.channel.proofs.HeldFrame.{offered_is, frame-after}
-use Rattle.channel.proofs.Tested.{is-here, not-here, taken-passes, taken-told, taken-test}
+use Rattle.channel.proofs.HeldFrame.{offered_is, frame_after_lem}
+use Rattle.channel.proofs.Tested.{is_here_lem, not_here, taken_passes, taken_told, taken_test}
 
 -- ---- strings 1..4 are present where the four low bits of the mask are set
 four_low : (row : Row) → FourPresent row → row.present % 16 ≡ 15
@@ -64,31 +64,31 @@ module _ (row : Row) (epoch : ℕ) (s : List ℕ) (r : Offered) (long : length r
   abbrev news_by : Bool → News
   news_by here = pick here AlreadyHeld (news_at more (m_in s))
 
-  news-said : (here : Bool) → is_here (frame_of row) epoch n ≡ here → said r 4 ≡ news_number (news_by here)
-  news-said here e =
-      ap (λ (l : List ℕ). get_or l 4 0) (taken-told row epoch s r o t) ∙ fifth (m_in s) (verdict_in s) (news_of (frame_of row) epoch n) _
+  news_said : (here : Bool) → is_here (frame_of row) epoch n ≡ here → said r 4 ≡ news_number (news_by here)
+  news_said here e =
+      ap (λ (l : List ℕ). get_or l 4 0) (taken_told row epoch s r o t) ∙ fifth (m_in s) (verdict_in s) (news_of (frame_of row) epoch n) _
       ∙ ap (λ (b : Bool). news_number (news_by b)) e
 
   least : 1 ≤ m_in s
-  least = (taken-passes row epoch s r o t).numbered
+  least = (taken_passes row epoch s r o t).numbered
 
   held : IsHeld row epoch s → said r 4 ≡ 0
-  held h = news-said true (is-here row epoch s least h)
+  held h = news_said true (is_here_lem row epoch s least h)
 
   module _ (fresh : IsHeld row epoch s → ⊥) where
     -- the row then holds the frame with the string
     row_more : frame_of r.row ≡ more
     row_more =
-        ap frame_of (offered_is row epoch s r o) ∙ frame-after row epoch s long
-        ∙ ap (λ (b : Bool). pick b (after_string (frame_of row) epoch n) (frame_of row)) (taken-test row epoch s r o t)
-        ∙ ap (λ (b : Bool). pick b (frame_of row) more) (not-here row epoch s least fresh)
+        ap frame_of (offered_is row epoch s r o) ∙ frame_after_lem row epoch s long
+        ∙ ap (λ (b : Bool). pick b (after_string (frame_of row) epoch n) (frame_of row)) (taken_test row epoch s r o t)
+        ∙ ap (λ (b : Bool). pick b (frame_of row) more) (not_here row epoch s least fresh)
 
     abbrev completes : Bool
     completes = leb (m_in s) 4 && eqb (r.row.present % 16) 15
 
     news-new : said r 4 ≡ news_number (pick completes (pick (are_good r.row.strings) RecordBuilt RecordOutOfRange) Kept)
     news-new =
-        news-said false (not-here row epoch s least fresh) ∙ ap (λ (f : Frame). news_number (news_at f (m_in s))) (sym row_more)
+        news_said false (not_here row epoch s least fresh) ∙ ap (λ (f : Frame). news_number (news_at f (m_in s))) (sym row_more)
         ∙ ap news_number (news_is r.row.start r.row.present r.row.strings (m_in s))
 
     does : Completes s r → completes ≡ true

@@ -43,8 +43,8 @@ use Rattle.strings.proofs.Tests.{past_first}
 use Rattle.strings.proofs.SoundTests.{IsSound}
 use Rattle.relative.specs.Polarity.{polarity_of}
 use Rattle.relative.proofs.RelativeCode.{polarity_told}
-use Rattle.channel.proofs.Answers.{told_with_lem, counts-by, tells-by}
-use Rattle.hearing.proofs.Hearing.{none_fits_lem, heard-then, heard-number, heard-shape, heard-verdict}
+use Rattle.channel.proofs.Answers.{told_with_lem, counts_by, tells_by}
+use Rattle.hearing.proofs.Hearing.{none_fits_lem, heard_then, heard_number, heard_shape, heard_verdict}
 
 -- ---- test by test
 -- a refusal by some tests is one by these and others after them: nothing changes
@@ -63,7 +63,7 @@ module _ {told : List ℕ} {h taken : Held} (q : Refusal) (before : List ℕ) wh
 -- a string that is heard: the tests of its place decide
 settles_heard : {told : List ℕ} {h taken : Held} {a : Placed} {h' : Held} {ts : List Test} (s : List ℕ) → misshapen s ≡ false → IsSound (plain_of s)
     → Settles ts told h taken a h' → Settles (hear_tests s ++ ts) told h taken a h'
-settles_heard {ts} s e i k = let p = heard-then s ts e i in record { answer = rw (p.0, p.1) k.answer; left = rw p.0 k.left }
+settles_heard {ts} s e i k = let p = heard_then s ts e i in record { answer = rw (p.0, p.1) k.answer; left = rw p.0 k.left }
 
 -- no test fits
 takes : {told : List ℕ} {h taken : Held} {a : Placed} {h' : Held} (ts : List Test) → first_of ts ≡ 0 → placed_paper a ≡ 0 ∷ told → h' ≡ taken
@@ -104,12 +104,12 @@ module _ (h : Held) (epoch n : ℕ) (v : Verdict) (r : Fate) (f : FateBy (place_
   abbrev tests : List Test
   tests = place_tests (frame_in h) epoch n
 
-  pub placed-not : (q : Refusal) → r ≡ No q → Places h epoch n v (Refused q) h
-  placed-not q e = refuses q (fate_told h epoch n) tests [] (ap fate_paper (sym e) ∙ f)
+  pub placed_not : (q : Refusal) → r ≡ No q → Places h epoch n v (Refused q) h
+  placed_not q e = refuses q (fate_told h epoch n) tests [] (ap fate_paper (sym e) ∙ f)
 
-  pub placed-here : r ≡ Here → Places h epoch n v (Taken (number_in n) v AlreadyHeld) h
+  pub placed_here : r ≡ Here → Places h epoch n v (Taken (number_in n) v AlreadyHeld) h
   unfolding held_with
-  placed-here e =
+  placed_here e =
       let p = fated_here (first_of tests) (place_of tests) _ (is_here (frame_in h) epoch n) (ap fate_paper (sym e) ∙ f) in
       takes tests p.0
       (ap (λ (t : Bool). 0 ∷ told_as (number_in n) v (pick t AlreadyHeld (news_at (with_string (frame_for (frame_in h) (start_of epoch n)) n) (number_in n)))) (sym p.1))
@@ -121,15 +121,15 @@ module _ (h : Held) (epoch n : ℕ) (v : Verdict) (r : Fate) (f : FateBy (place_
     facts = fated_new (first_of tests) (place_of tests) start mask _ _ (is_here (frame_in h) epoch n) (ap fate_paper (sym e) ∙ f)
 
     -- a string that is taken has a number
-    pub new-numbered : 1 ≤ number_in n
-    new-numbered =
+    pub new_numbered : 1 ≤ number_in n
+    new_numbered =
         let z = eqb-false (number_in n) 0 (past_first 4 (eqb (number_in n) 0) (drop 1 tests) facts.0.0).0 in
         lt_of_le-ne (omega arith) (λ q. z (sym q))
 
     -- it is stored in the frame that it joins
-    pub placed-new : (a : Placed) (h' : Held) → StoresIn (held start mask (bytes_by mask h.bytes)) n v a h' → Places h epoch n v a h'
+    pub placed_new : (a : Placed) (h' : Held) → StoresIn (held start mask (bytes_by mask h.bytes)) n v a h' → Places h epoch n v a h'
     unfolding held_with
-    placed-new a h' s =
+    placed_new a h' s =
         let o = start_of epoch n in
         let i : held start mask (bytes_by mask h.bytes) ≡ held_for h o =
         ap₂ (λ (x y : ℕ). held x y (bytes_by y h.bytes)) facts.1.0 facts.1.1 ∙ joined h o (is_of_frame (frame_in h) o) refl
@@ -143,21 +143,21 @@ module _ (h : Held) (epoch n : ℕ) (v : Verdict) (r : Fate) (f : FateBy (place_
 
 -- ---- what is heard comes to
 module _ (h : Held) (epoch : ℕ) (s out out' : List ℕ) (c : Checked) (a : Hears s out c out') where
-  pub heard-no : (q : Refusal) → c ≡ NotTaken q → OffersApart h epoch s (Refused q) h
+  pub heard_no : (q : Refusal) → c ≡ NotTaken q → OffersApart h epoch s (Refused q) h
   unfolding Hears
-  heard-no q e =
+  heard_no q e =
       refuses q (verdict_told (ruling (plain_of s))) (hear_tests s) (place_tests (frame_in h) epoch (whole_of s)) (ap checked_paper (sym e) ∙ a.answer)
 
-  pub heard-shaped : (v : Verdict) → c ≡ Sound v → misshapen out' ≡ false
-  heard-shaped v e = heard-shape s out out' v (subst (λ (y : Checked). Hears s out y out') e a)
+  pub heard_shaped : (v : Verdict) → c ≡ Sound v → misshapen out' ≡ false
+  heard_shaped v e = heard_shape s out out' v (subst (λ (y : Checked). Hears s out y out') e a)
 
-  pub heard-on : (v : Verdict) → c ≡ Sound v → (x : Placed) (h' : Held) → Places h epoch (number_of out') v x h' → OffersApart h epoch s x h'
-  heard-on v e x h' p =
+  pub heard_on_lem : (v : Verdict) → c ≡ Sound v → (x : Placed) (h' : Held) → Places h epoch (number_of out') v x h' → OffersApart h epoch s x h'
+  heard_on_lem v e x h' p =
       let b : Hears s out (Sound v) out' = subst (λ (y : Checked). Hears s out y out') e a in
       let n = none_fits_lem s out out' v b in
       settles_heard s n.0 n.1
-      (subst (λ (w : Verdict). Places h epoch (whole_of s) w x h') (heard-verdict s out out' v b)
-      (subst (λ (k : ℕ). Places h epoch k v x h') (heard-number s out out' v b) p))
+      (subst (λ (w : Verdict). Places h epoch (whole_of s) w x h') (heard_verdict s out out' v b)
+      (subst (λ (k : ℕ). Places h epoch k v x h') (heard_number s out out' v b) p))
 
 -- what is taken has eleven bytes
 pub placed_whole : (h : Held) (epoch : ℕ) (s : List ℕ) (a : Placed) (h' : Held) → OffersApart h epoch s a h' → is_placed a ≡ true → length s ≡ 11
@@ -172,31 +172,31 @@ abbrev pub row_by : Row → Held → Bool → Outcome → Row
 row_by row h built o = counted o (holding row h (record_by built h.start h.bytes row.immediate))
 
 module _ (row : Row) (epoch : ℕ) (s : List ℕ) where
-  abbrev theTests : List Test
-  theTests = offer_tests (frame_of row) epoch s
+  abbrev the_tests : List Test
+  the_tests = offer_tests (frame_of row) epoch s
 
-  abbrev theNews : News
-  theNews = news_of (frame_of row) epoch (whole_of s)
+  abbrev the_news : News
+  the_news = news_of (frame_of row) epoch (whole_of s)
 
-  row-by : (k : ℕ) (t : Bool) → row_by row (pick t (held_with (held_of row) epoch (whole_of s)) (held_of row)) (pick t (is_built theNews) false) (pick t (TAKEN (verdict_in s)) (REFUSED k))
+  row_by_lem : (k : ℕ) (t : Bool) → row_by row (pick t (held_with (held_of row) epoch (whole_of s)) (held_of row)) (pick t (is_built the_news) false) (pick t (TAKEN (verdict_in s)) (REFUSED k))
       ≡ counted (pick t (TAKEN (verdict_in s)) (REFUSED k)) (pick t (taken_row row epoch (whole_of s)) row)
   unfolding taken_row counted
-  row-by k true = refl
-  row-by k false = refl
+  row_by_lem k true = refl
+  row_by_lem k false = refl
 
-  pub offers-by : (h' : Held) (said : Placed) (r : Offered) → OffersApart (held_of row) epoch s said h' → r.answer ≡ told_with said (polarity_of (number_of s))
+  pub offers_by : (h' : Held) (said : Placed) (r : Offered) → OffersApart (held_of row) epoch s said h' → r.answer ≡ told_with said (polarity_of (number_of s))
       → r.row ≡ row_by row h' (tells_record said) (outcome_of r.answer) → Offers row epoch s r
   unfolding Offers
-  offers-by h' said r a t e =
-      let k = first_of theTests in
-      let place = place_of theTests in
+  offers_by h' said r a t e =
+      let k = first_of the_tests in
+      let place = place_of the_tests in
       let m = number_in (whole_of s) in
       let p = polarity_of (number_of s) in
       let says = ap answer_paper t ∙ told_with_lem said p k place _ a.answer in
       record {
-        answer = says ∙ ap (λ (b : ℕ). said_by k place (told_as m (verdict_in s) theNews ++ (b ∷ []))) (polarity_told (number_of s));
+        answer = says ∙ ap (λ (b : ℕ). said_by k place (told_as m (verdict_in s) the_news ++ (b ∷ []))) (polarity_told (number_of s));
         left =
-            e ∙ ap₂ (λ (x : Bool) (y : Outcome). row_by row h' x y) (tells-by place m (verdict_in s) theNews said k a.answer) (counts-by place m (verdict_in s) theNews p r.answer k says)
-            ∙ ap (λ (x : Held). row_by row x (pick (eqb k 0) (is_built theNews) false) (pick (eqb k 0) (TAKEN (verdict_in s)) (REFUSED k))) a.left
-            ∙ row-by k (eqb k 0);
+            e ∙ ap₂ (λ (x : Bool) (y : Outcome). row_by row h' x y) (tells_by place m (verdict_in s) the_news said k a.answer) (counts_by place m (verdict_in s) the_news p r.answer k says)
+            ∙ ap (λ (x : Held). row_by row x (pick (eqb k 0) (is_built the_news) false) (pick (eqb k 0) (TAKEN (verdict_in s)) (REFUSED k))) a.left
+            ∙ row_by_lem k (eqb k 0);
       }

@@ -15,7 +15,7 @@ use Rattle.channel.specs.Row.{is_present, holds_frame, frame_of}
 use Rattle.channel.specs.Offers.{answer_paper, Offers}
 use Rattle.channel.specs.Laws.{IsTaken, m_in, start_at, mask_bit, HoldsFrame, Passes, Starts}
 use Rattle.channel.proofs.Frames.{number_small}
-use Rattle.channel.proofs.Tested.{held_true, held_false, present_is, none_fits_lem, taken-first, passed-said, passed_first}
+use Rattle.channel.proofs.Tested.{held_true, held_false, present_is, none_fits_lem, taken_first, passed_said, passed_first}
 
 module _ (row : Row) (epoch : ℕ) (s : List ℕ) (r : Offered) (o : Offers row epoch s r) where
   abbrev at : ℕ
@@ -23,7 +23,7 @@ module _ (row : Row) (epoch : ℕ) (s : List ℕ) (r : Offered) (o : Offers row 
 
   only : HoldsFrame row → IsTaken r → (at ≡ row.start) ⊎ (row.start + 15 ≤ at)
   only h t =
-      let z = none_fits_lem (frame_of row) epoch s (taken-first row epoch s r o t) in
+      let z = none_fits_lem (frame_of row) epoch s (taken_first row epoch s r o t) in
       let u = held_true row h in
       let from = ltb-false at row.start (rw u at z.seven) in
       by from (ltb row.start at) (ltb at (row.start + 15)) refl refl (rw u at z.eight)
@@ -35,11 +35,11 @@ module _ (row : Row) (epoch : ℕ) (s : List ℕ) (r : Offered) (o : Offers row 
 
   module _ (p : Passes epoch s) where
     stale : HoldsFrame row → at < row.start → answer_paper r.answer ≡ 7 ∷ []
-    stale h l = passed-said row epoch s r o p ∙ rw (held_true row h, lt-ltb at row.start l)
+    stale h l = passed_said row epoch s r o p ∙ rw (held_true row h, lt-ltb at row.start l)
 
     off_beat : HoldsFrame row → row.start < at → at < row.start + 15 → answer_paper r.answer ≡ 8 ∷ []
     off_beat h l u =
-        passed-said row epoch s r o p
+        passed_said row epoch s r o p
         ∙ rw (held_true row h, le-ltb at row.start (omega arith), lt-ltb row.start at l, lt-ltb at (row.start + 15) u)
 
     -- no number of 7 to 9 fits

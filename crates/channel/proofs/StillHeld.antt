@@ -23,7 +23,7 @@ use Rattle.channel.specs.Offers.{offer_tests}
 use Rattle.channel.specs.History.{Call, Offer, Reset, frame_after, held_after, makes_record, four_of, of_latest, record_after, record_start, Runs}
 use Rattle.channel.proofs.Tested.{none_fits_lem}
 use Rattle.channel.proofs.HeldFrame.{taken_numbered, held_is}
-use Rattle.channel.proofs.LatestRecord.{later-makes, record_now, not_empty, record_there, record_is, start_is}
+use Rattle.channel.proofs.LatestRecord.{later_makes, record_now, not_empty, record_there, record_is, start_is}
 
 -- a frame with a string is held
 string_held : (cs : List Call) (m : ℕ) → (held_after cs).has m ≡ true → (held_after cs).held ≡ true
@@ -42,12 +42,12 @@ string_held (Reset ∷ cs) m h = absurd (false≢true h)
 
 -- strings 1..4 of a frame that makes a record
 module _ (f : Frame) (makes : makes_record f ≡ true) where
-  four-there : f.has 1 ≡ true
-  four-there = (both (f.has 1) _ (both (is_complete f) _ makes).0).0
+  four_there : f.has 1 ≡ true
+  four_there = (both (f.has 1) _ (both (is_complete f) _ makes).0).0
 
   -- a string that is not there is above 4
-  absent-above : (k : ℕ) → 1 ≤ k → f.has k ≡ false → leb k 4 ≡ false
-  absent-above k least absent =
+  absent_above : (k : ℕ) → 1 ≤ k → f.has k ≡ false → leb k 4 ≡ false
+  absent_above k least absent =
       let all = (both (is_complete f) _ makes).0 in
       let rest = (both (f.has 1) _ all).1 in
       let last = (both (f.has 2) _ rest).1 in
@@ -73,16 +73,16 @@ module _ (f : Frame) (epoch : ℕ) (s : List ℕ) (start : ℕ) (goes : Goes sta
   at = start_of epoch n
 
   -- one of a later frame starts later
-  new-later : is_of_frame f at ≡ false → f.start < at
-  new-later q =
+  new_later : is_of_frame f at ≡ false → f.start < at
+  new_later q =
       let z = none_fits_lem f epoch s taken in
       let h = goes.is_held in
       let from = ltb-false at f.start (rw h at z.seven) in
       let apart = eqb-false at f.start (rw h at q) in
       omega (arith, from, apart)
 
-  stored-goes : is_here f epoch n ≡ false → Goes start (with_string (frame_for f at) n)
-  stored-goes absent = by (is_of_frame f at) refl
+  stored_goes : is_here f epoch n ≡ false → Goes start (with_string (frame_for f at) n)
+  stored_goes absent = by (is_of_frame f at) refl
     where
       by : (t : Bool) → is_of_frame f at ≡ t → Goes start (with_string (pick t f (empty_frame at)) n)
       by true q =
@@ -91,25 +91,25 @@ module _ (f : Frame) (epoch : ℕ) (s : List ℕ) (start : ℕ) (goes : Goes sta
             not_later = goes.not_later;
             same_start =
                 λ e. let m = goes.same_start e in
-                later-makes f n (absent-above f m (number_in n) (taken_numbered f epoch s taken) (rw q at absent)) ∙ m;
+                later_makes f n (absent_above f m (number_in n) (taken_numbered f epoch s taken) (rw q at absent)) ∙ m;
           }
       by false q =
-          let l = new-later q in
+          let l = new_later q in
           let u = goes.not_later in
           record { is_held = refl; not_later = omega arith; same_start = λ e. absurd (omega (arith, e)) }
 
-  taken-goes : Goes start (after_string f epoch n)
-  taken-goes = by (is_here f epoch n) refl
+  taken_goes : Goes start (after_string f epoch n)
+  taken_goes = by (is_here f epoch n) refl
     where
       by : (t : Bool) → is_here f epoch n ≡ t → Goes start (pick t f (with_string (frame_for f at) n))
       by true q = goes
-      by false q = stored-goes q
+      by false q = stored_goes q
 
 after_goes : (f : Frame) (epoch : ℕ) (s : List ℕ) (start : ℕ) → Goes start f → Goes start (frame_after f epoch s)
 after_goes f epoch s start goes = by (eqb (first_of (offer_tests f epoch s)) 0) refl
   where
     by : (t : Bool) → eqb (first_of (offer_tests f epoch s)) 0 ≡ t → Goes start (pick t (after_string f epoch (whole_of s)) f)
-    by true q = taken-goes f epoch s start goes (eqb-true (first_of (offer_tests f epoch s)) 0 q)
+    by true q = taken_goes f epoch s start goes (eqb-true (first_of (offer_tests f epoch s)) 0 q)
     by false q = goes
 
 held_goes : (cs : List Call) (epoch : ℕ) (s : List ℕ) (start : ℕ) → Goes start (held_after cs) → Goes start (held_after (Offer epoch s ∷ cs))
@@ -126,7 +126,7 @@ record_goes (Offer epoch s ∷ cs) n = by (makes_record (held_after (Offer epoch
         → Goes (pick t (held_after (Offer epoch s ∷ cs)).start (record_start cs)) (held_after (Offer epoch s ∷ cs))
     by true q m before =
         record {
-          is_held = string_held (Offer epoch s ∷ cs) 1 (four-there (held_after (Offer epoch s ∷ cs)) q);
+          is_held = string_held (Offer epoch s ∷ cs) 1 (four_there (held_after (Offer epoch s ∷ cs)) q);
           not_later = omega arith;
           same_start = λ e. q;
         }
@@ -153,6 +153,6 @@ still_held cs row run = by (still_holds row) refl (makes_record (frame_of row)) 
     by false p true q =
         let m = ap makes_record (sym h) ∙ q in
         let there = (record_there row.immediate).1 (λ e. not_empty _ _ (sym (record_is cs row run ∙ record_now [] four_of cs m) ∙ e)) in
-        let held = ap (λ (f : Frame). f.held) h ∙ string_held cs 1 (four-there (held_after cs) m) in
+        let held = ap (λ (f : Frame). f.held) h ∙ string_held cs 1 (four_there (held_after cs) m) in
         let same = start_is cs row run ∙ record_now 0 (λ (f : Frame). f.start) cs m ∙ ap (λ (f : Frame). f.start) (sym h) in
         absurd (true≢false (sym (rw (there, held, eq-eqb row.immediate.start row.start same)) ∙ p))

@@ -28,7 +28,7 @@ use Rattle.channel.specs.Row.{is_present, holds_frame, frame_of}
 use Rattle.channel.specs.Offers.{answer_paper, told_to, offer_tests, Offers}
 use Rattle.channel.specs.Laws.{said, IsTaken, m_in, start_at, mask_bit, HoldsFrame, Passes, IsHeld}
 use Rattle.channel.proofs.Frames.{number_small, present_held}
-use Rattle.hearing.proofs.Hearing.{heard-first, heard-then}
+use Rattle.hearing.proofs.Hearing.{heard_first, heard_then}
 use Rattle.channel.proofs.HeldFrame.{said_by_lem, first_said}
 
 -- ---- the padding is the last byte's: every other byte is a multiple of 8 in the value
@@ -105,7 +105,7 @@ module _ (f : Frame) (epoch : ℕ) (s : List ℕ) (t : first_of (offer_tests f e
   none_fits_lem =
       let n = whole_of s in
       let ts = place_tests f epoch n in
-      let heard = heard-first s ts t in
+      let heard = heard_first s ts t in
       let five = past_first 4 (eqb (number_in n) 0) (drop 1 ts) heard.1.1 in
       let six = past_first 5 (ltb epoch (number_in n - 1)) (drop 2 ts) five.1 in
       let seven = past_first 6 (fits_at f epoch n 2) (drop 3 ts) six.1 in
@@ -139,19 +139,19 @@ module _ (row : Row) (m : ℕ) (least : 1 ≤ m) (most : m ≤ 15) where
 
 -- "same start and m held", of a string with a number
 module _ (row : Row) (epoch : ℕ) (s : List ℕ) (least : 1 ≤ m_in s) where
-  here-true : IsHeld row epoch s → (is_present row.present (m_in s) ≡ true) × (is_here (frame_of row) epoch (whole_of s) ≡ true)
-  here-true h =
+  here_true : IsHeld row epoch s → (is_present row.present (m_in s) ≡ true) × (is_here (frame_of row) epoch (whole_of s) ≡ true)
+  here_true h =
       let p = present_is row (m_in s) least (number_small (whole_of s)) ∙ eq-eqb (mask_bit row (m_in s)) 1 h.1 in
       (p, rw (present_held row.present (m_in s) p, eq-eqb (start_at epoch s) row.start h.0, p))
 
-  pub is-present : IsHeld row epoch s → is_present row.present (m_in s) ≡ true
-  is-present h = (here-true h).0
+  pub is_present_lem : IsHeld row epoch s → is_present row.present (m_in s) ≡ true
+  is_present_lem h = (here_true h).0
 
-  pub is-here : IsHeld row epoch s → is_here (frame_of row) epoch (whole_of s) ≡ true
-  is-here h = (here-true h).1
+  pub is_here_lem : IsHeld row epoch s → is_here (frame_of row) epoch (whole_of s) ≡ true
+  is_here_lem h = (here_true h).1
 
-  pub not-here : (IsHeld row epoch s → ⊥) → is_here (frame_of row) epoch (whole_of s) ≡ false
-  not-here h = by (is_here (frame_of row) epoch (whole_of s)) refl
+  pub not_here : (IsHeld row epoch s → ⊥) → is_here (frame_of row) epoch (whole_of s) ≡ false
+  not_here h = by (is_here (frame_of row) epoch (whole_of s)) refl
     where
       by : (t : Bool) → is_here (frame_of row) epoch (whole_of s) ≡ t → t ≡ false
       by true e =
@@ -169,32 +169,32 @@ module _ (row : Row) (epoch : ℕ) (s : List ℕ) (r : Offered) (o : Offers row 
   abbrev n : ℕ
   n = whole_of s
 
-  pub first-is : said r 0 ≡ first_of (offer_tests frame epoch s)
-  first-is = ap (λ (l : List ℕ). get_or l 0 0) (said_by_lem row epoch s r o) ∙ first_said (offer_tests frame epoch s) _
+  pub first_is : said r 0 ≡ first_of (offer_tests frame epoch s)
+  first_is = ap (λ (l : List ℕ). get_or l 0 0) (said_by_lem row epoch s r o) ∙ first_said (offer_tests frame epoch s) _
 
-  pub taken-first : IsTaken r → first_of (offer_tests frame epoch s) ≡ 0
-  taken-first t = sym first-is ∙ t
+  pub taken_first : IsTaken r → first_of (offer_tests frame epoch s) ≡ 0
+  taken_first t = sym first_is ∙ t
 
-  pub taken-passes : IsTaken r → Passes epoch s
-  taken-passes t = all_pass frame epoch s (taken-first t)
+  pub taken_passes : IsTaken r → Passes epoch s
+  taken_passes t = all_pass frame epoch s (taken_first t)
 
   -- what passed is answered by 7 to 9
-  pub passed-said : Passes epoch s → answer_paper r.answer ≡ answer_of (last_three frame epoch n) (told_to frame epoch s)
-  passed-said p =
+  pub passed_said : Passes epoch s → answer_paper r.answer ≡ answer_of (last_three frame epoch n) (told_to frame epoch s)
+  passed_said p =
       let q = past epoch s p in
-      let h = heard-then s (place_tests frame epoch n) q.shape q.sound in
+      let h = heard_then s (place_tests frame epoch n) q.shape q.sound in
       said_by_lem row epoch s r o ∙ rw (h.0, h.1, q.number, q.early)
 
   pub passed_first : Passes epoch s → said r 0 ≡ first_of (last_three frame epoch n)
   passed_first p =
       let q = past epoch s p in
-      first-is ∙ (heard-then s (place_tests frame epoch n) q.shape q.sound).0 ∙ rw (q.number, q.early)
+      first_is ∙ (heard_then s (place_tests frame epoch n) q.shape q.sound).0 ∙ rw (q.number, q.early)
 
   -- what is taken tells m, the verdict, the news and the polarity
-  pub taken-told : IsTaken r → answer_paper r.answer ≡ 0 ∷ told_to frame epoch s
-  taken-told t =
+  pub taken_told : IsTaken r → answer_paper r.answer ≡ 0 ∷ told_to frame epoch s
+  taken_told t =
       let tests = offer_tests frame epoch s in
-      said_by_lem row epoch s r o ∙ ap (λ (k : ℕ). said_by k (place_of tests) (told_to frame epoch s)) (taken-first t)
+      said_by_lem row epoch s r o ∙ ap (λ (k : ℕ). said_by k (place_of tests) (told_to frame epoch s)) (taken_first t)
 
-  pub taken-test : IsTaken r → eqb (first_of (offer_tests frame epoch s)) 0 ≡ true
-  taken-test t = eq-eqb (first_of (offer_tests frame epoch s)) 0 (taken-first t)
+  pub taken_test : IsTaken r → eqb (first_of (offer_tests frame epoch s)) 0 ≡ true
+  taken_test t = eq-eqb (first_of (offer_tests frame epoch s)) 0 (taken_first t)

@@ -27,7 +27,7 @@ use Rattle.channel.specs.History.{Call, Runs, fresh, offering, resetting}
 use Rattle.channel.specs.Laws.{IsTaken, m_in, start_at, HoldsFrame, NewFrame, AbsentZero}
 use Rattle.channel.proofs.Frames.{number_small, bit_same, bit_other, part, part_at, part_long, part_same, part_stays}
 use Rattle.channel.proofs.HeldFrame.{for_long, offered_is, runs_long, taken_numbered}
-use Rattle.channel.proofs.Tested.{holds, taken-passes, taken-test}
+use Rattle.channel.proofs.Tested.{holds, taken_passes, taken_test}
 
 -- ---- eleven zeros of 165
 zero_part : (at : ℕ) → at + 11 ≤ 165 → part (replicate 165 0) at ≡ replicate 11 0
@@ -57,20 +57,20 @@ stored_zero h n long small least z m l u e =
     part_stays h n long small least m l u ne ∙ z m l u (sym (bit_other h.mask (k - 1) (m - 1) (λ q. ne (omega arith))) ∙ e)
 
 module _ (h : Held) (epoch n : ℕ) (long : length h.bytes ≡ 165) (small : n < 2 ^ 85) (least : 1 ≤ number_in n) (z : Zero h) where
-  for-zero : Zero (held_for h (start_of epoch n))
-  for-zero = by (is_of_frame (frame_in h) (start_of epoch n))
+  for_zero : Zero (held_for h (start_of epoch n))
+  for_zero = by (is_of_frame (frame_in h) (start_of epoch n))
     where
       by : (t : Bool) → Zero (pick t h (new_frame (start_of epoch n)))
       by true = z
       by false = new_zero (start_of epoch n)
 
-  with-zero : Zero (held_with h epoch n)
+  with_zero : Zero (held_with h epoch n)
   unfolding held_with
-  with-zero = by (is_here (frame_in h) epoch n)
+  with_zero = by (is_here (frame_in h) epoch n)
     where
       by : (t : Bool) → Zero (pick t h (stored (held_for h (start_of epoch n)) n))
       by true = z
-      by false = stored_zero (held_for h (start_of epoch n)) n (for_long h (start_of epoch n) long) small least for-zero
+      by false = stored_zero (held_for h (start_of epoch n)) n (for_long h (start_of epoch n) long) small least for_zero
 
 -- ---- over a history
 offered_zero : (row : Row) (epoch : ℕ) (s : List ℕ) → length row.strings ≡ 165 → Zero (held_of row) → Zero (held_of (offered_row row epoch s))
@@ -79,7 +79,7 @@ offered_zero row epoch s long z = by (eqb (first_of (offer_tests (frame_of row) 
   where
     by : (t : Bool) → eqb (first_of (offer_tests (frame_of row) epoch s)) 0 ≡ t → Zero (held_of (pick t (taken_row row epoch (whole_of s)) row))
     by true e =
-        with-zero (held_of row) epoch (whole_of s) long (whole_lt s) (taken_numbered (frame_of row) epoch s (eqb-true (first_of (offer_tests (frame_of row) epoch s)) 0 e)) z
+        with_zero (held_of row) epoch (whole_of s) long (whole_lt s) (taken_numbered (frame_of row) epoch s (eqb-true (first_of (offer_tests (frame_of row) epoch s)) 0 e)) z
     by false e = z
 
 empty_zero : Zero (held_of empty_row)
@@ -106,8 +106,8 @@ module _ (row : Row) (epoch : ℕ) (s : List ℕ) (r : Offered) (long : length r
   abbrev begun : Held
   begun = new_frame (start_at epoch s)
 
-  not-of : is_of_frame (frame_of row) (start_at epoch s) ≡ false
-  not-of = by (is_of_frame (frame_of row) (start_at epoch s)) refl
+  not_of : is_of_frame (frame_of row) (start_at epoch s) ≡ false
+  not_of = by (is_of_frame (frame_of row) (start_at epoch s)) refl
     where
       by : (b : Bool) → is_of_frame (frame_of row) (start_at epoch s) ≡ b → b ≡ false
       by true e =
@@ -120,25 +120,25 @@ module _ (row : Row) (epoch : ℕ) (s : List ℕ) (r : Offered) (long : length r
   unfolding counted taken_row held_with
   alone =
       ap held_of (offered_is row epoch s r o)
-      ∙ ap (λ (b : Bool). held_of (pick b (taken_row row epoch n) row)) (taken-test row epoch s r o t)
-      ∙ ap (λ (b : Bool). pick (b && is_present row.present (m_in s)) (held_of row) (stored (pick b (held_of row) begun) n)) not-of
+      ∙ ap (λ (b : Bool). held_of (pick b (taken_row row epoch n) row)) (taken_test row epoch s r o t)
+      ∙ ap (λ (b : Bool). pick (b && is_present row.present (m_in s)) (held_of row) (stored (pick b (held_of row) begun) n)) not_of
 
   least : 1 ≤ m_in s
-  least = (taken-passes row epoch s r o t).numbered
+  least = (taken_passes row epoch s r o t).numbered
 
-  begun-long : length begun.bytes ≡ 165
+  begun_long : length begun.bytes ≡ 165
   unfolding new_frame
-  begun-long = length-replicate {A = ℕ} 165 0
+  begun_long = length-replicate {A = ℕ} 165 0
 
-  new-own : part (stored begun n).bytes (11 * (m_in s - 1)) ≡ bytes_of_string n
+  new_own : part (stored begun n).bytes (11 * (m_in s - 1)) ≡ bytes_of_string n
   unfolding stored
-  new-own =
+  new_own =
       let u = number_small n in
-      part_same begun.bytes (bytes_of_string n) (11 * (m_in s - 1)) (string_length n) (omega (arith, begun-long))
+      part_same begun.bytes (bytes_of_string n) (11 * (m_in s - 1)) (string_length n) (omega (arith, begun_long))
 
-  new-other : (m : ℕ) → 1 ≤ m → m ≤ 15 → (m ≡ m_in s → ⊥) → part (stored begun n).bytes (11 * (m - 1)) ≡ replicate 11 0
+  new_other : (m : ℕ) → 1 ≤ m → m ≤ 15 → (m ≡ m_in s → ⊥) → part (stored begun n).bytes (11 * (m - 1)) ≡ replicate 11 0
   unfolding new_frame
-  new-other m l u ne = part_stays begun n begun-long (whole_lt s) least m l u ne ∙ zero_part (11 * (m - 1)) (omega arith)
+  new_other m l u ne = part_stays begun n begun_long (whole_lt s) least m l u ne ∙ zero_part (11 * (m - 1)) (omega arith)
 
   -- A NEW FRAME LEAVES ITS OTHER FOURTEEN STRINGS ZERO
   pub new_frame_lem : NewFrame epoch s r
@@ -147,6 +147,6 @@ module _ (row : Row) (epoch : ℕ) (s : List ℕ) (r : Offered) (long : length r
       record {
         start = ap (λ (h : Held). h.start) alone;
         present = ap (λ (h : Held). h.mask) alone;
-        own = ap (λ (h : Held). take 11 (drop (11 * (m_in s - 1)) h.bytes)) alone ∙ new-own;
-        others = λ m l u ne. ap (λ (h : Held). take 11 (drop (11 * (m - 1)) h.bytes)) alone ∙ new-other m l u ne;
+        own = ap (λ (h : Held). take 11 (drop (11 * (m_in s - 1)) h.bytes)) alone ∙ new_own;
+        others = λ m l u ne. ap (λ (h : Held). take 11 (drop (11 * (m - 1)) h.bytes)) alone ∙ new_other m l u ne;
       }

@@ -11,7 +11,7 @@ use lib.Pow.{pow-add, pow_pos, pow_mono}
 use Rattle.decimals.specs.Decimal.{Scale, Nearest, scale_of, figures_of}
 use Rattle.decimals.specs.Theorems.{NoCarry}
 use Rattle.decimals.proofs.Scales.{scale_is}
-use Rattle.decimals.proofs.ToNearest.{n-near}
+use Rattle.decimals.proofs.ToNearest.{n_near}
 
 -- the least j, up to m, with b < 2 * 10 ^ j
 abbrev Least : ℕ → ℕ → ℕ → Type 0
@@ -70,7 +70,7 @@ pub below_ten : (a b : ℕ) → 0 < a → a < 1000000000000 → 0 < b → b < 20
 below_ten a b A small B big =
     let l = least 13 b big in
     let s = scale_is a b A (omega arith) (omega arith) in
-    no_ten a b (scale_of a b) (figures_of a b) l.0 (reaches a b l.0 (scale_of a b) small s l.1.2) l.1 s (n-near a b A small B (omega arith))
+    no_ten a b (scale_of a b) (figures_of a b) l.0 (reaches a b l.0 (scale_of a b) small s l.1.2) l.1 s (n_near a b A small B (omega arith))
 
 pub power_least : (p : ℕ) → 0 < 2 ^ p
 power_least p = pow_pos p

@@ -12,7 +12,7 @@ use lib.ListN.{length, get_or}
 use Rattle.decimals.specs.Decimal.{Nearest, IsRounded, IsSigned, below0, zero_text, text_of, scale_of, figures_of, signed_of}
 use Rattle.decimals.specs.Theorems.{Exactly, Nineteen, FirstDigit}
 use Rattle.decimals.proofs.Scales.{scale_once}
-use Rattle.decimals.proofs.ToNearest.{right, n-near, n-low, nearest_once, scale_le}
+use Rattle.decimals.proofs.ToNearest.{right, n_near, n_low, nearest_once, scale_le}
 use Rattle.decimals.proofs.Carry.{below_ten, power_least, power_most}
 
 module _ (neg : Bool) (a b : ℕ) (A : 0 < a) (small : a < 1000000000000) (B : 0 < b) (big : b < 20000000000000) where
@@ -21,8 +21,8 @@ module _ (neg : Bool) (a b : ℕ) (A : 0 < a) (small : a < 1000000000000) (B : 0
     figures = figures_of a b;
     place = scale_of a b;
     scale = right a b A small B (omega arith);
-    near = n-near a b A small B (omega arith);
-    not_zero = n-low a b A small B (omega arith);
+    near = n_near a b A small B (omega arith);
+    not_zero = n_low a b A small B (omega arith);
     one_digit = below_ten a b A small B big;
     two_digits = omega (arith, scale_le a b);
     text = refl;
@@ -32,7 +32,7 @@ module _ (neg : Bool) (a b : ℕ) (A : 0 < a) (small : a < 1000000000000) (B : 0
   no_other t u =
       let k : u.place ≡ scale_of a b = scale_once a b u.place (scale_of a b) u.scale (right a b A small B (omega arith)) in
       let near : Nearest (a * 10 ^ scale_of a b) b u.figures = subst (λ (z : ℕ). Nearest (a * 10 ^ z) b u.figures) k u.near in
-      let n : u.figures ≡ figures_of a b = nearest_once (a * 10 ^ scale_of a b) b u.figures (figures_of a b) B near (n-near a b A small B (omega arith)) in
+      let n : u.figures ≡ figures_of a b = nearest_once (a * 10 ^ scale_of a b) b u.figures (figures_of a b) B near (n_near a b A small B (omega arith)) in
       cc u.text
 
 signed : (neg : Bool) (a p : ℕ) (t : List ℕ) → a < 2 ^ 32 → p ≤ 44 → IsSigned neg a (2 ^ p) t ↔ (t ≡ signed_of neg a p)
@@ -91,7 +91,7 @@ first neg (suc m) p A h g =
     let b = 2 ^ p in
     let B = power_least p in
     let big = power_most p g in
-    let low = n-low (suc m) b A (omega (arith, h)) B (omega (arith, big)) in
+    let low = n_low (suc m) b A (omega (arith, h)) B (omega (arith, big)) in
     leading neg (figures_of (suc m) b) (scale_of (suc m) b) low (below_ten (suc m) b A (omega (arith, h)) B big)
 
 pub first_digit : FirstDigit

@@ -106,12 +106,12 @@ rounds a b q r k e h = ap (λ (z : ℕ). rounded z b) (sym e) ∙ ap (λ (z : �
 
 module _ (a b q r k n : ℕ) (A : 0 < a) (small : a < 1000000000000) (B : 0 < b) (big : b ≤ 1152921504606846976)
     (s : Scale a b k) (e : q * b + r ≡ a * 10 ^ k) (h : r < b) (near : n ≡ to_nearest q (compare (r * 2) b)) where
-  pub is-scale : k ≡ scale_of a b
-  is-scale = scale_once a b k (scale_of a b) s (scale_is a b A (omega arith) big)
+  pub is_scale : k ≡ scale_of a b
+  is_scale = scale_once a b k (scale_of a b) s (scale_is a b A (omega arith) big)
 
-  pub is-nearest : n ≡ figures_of a b
+  pub is_nearest : n ≡ figures_of a b
   unfolding figures_of
-  is-nearest = near ∙ sym (rounds a b q r k e h) ∙ ap (λ (z : ℕ). rounded (a * 10 ^ z) b) is-scale
+  is_nearest = near ∙ sym (rounds a b q r k e h) ∙ ap (λ (z : ℕ). rounded (a * 10 ^ z) b) is_scale
 
 -- ---- what holds at each turn
 pub record Turned (a b q r k : ℕ) : Type 0 where

@@ -102,10 +102,10 @@ module _ (a b : ℕ) (A : 0 < a) (small : a < 1000000000000) (B : 0 < b) (big : 
   pub right : Scale a b (scale_of a b)
   right = scale_is a b A (omega arith) big
 
-  pub n-low : 1000000000000 ≤ figures_of a b
+  pub n_low : 1000000000000 ≤ figures_of a b
   unfolding figures_of
-  n-low = let X = a * 10 ^ scale_of a b in le_trans ((le-div_iff_mul-le B).1 right.low) (at_least (X / b) (compare (X % b * 2) b))
+  n_low = let X = a * 10 ^ scale_of a b in le_trans ((le-div_iff_mul-le B).1 right.low) (at_least (X / b) (compare (X % b * 2) b))
 
-  pub n-near : Nearest (a * 10 ^ scale_of a b) b (figures_of a b)
+  pub n_near : Nearest (a * 10 ^ scale_of a b) b (figures_of a b)
   unfolding figures_of
-  n-near = nearest_is (a * 10 ^ scale_of a b) b B
+  n_near = nearest_is (a * 10 ^ scale_of a b) b B

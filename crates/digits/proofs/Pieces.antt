@@ -43,8 +43,8 @@ module _ (text : List ℕ) (at : ℕ) (s part : List ℕ) (room : at + length s 
   abbrev copied : List ℕ
   copied = take (length s) s ++ drop (length s) (take k (drop at text))
 
-  pub puts-copy : part ≡ copied → Puts text at s (take at text ++ (part ++ drop k (drop at text))) (at + length s)
-  puts-copy e =
+  pub puts_copy : part ≡ copied → Puts text at s (take at text ++ (part ++ drop k (drop at text))) (at + length s)
+  puts_copy e =
       let f : copied ≡ s ++ drop (at + length s) text =
       rw (take-length s, take_all k (drop at text) (simp length-drop (omega arith)), drop-drop (length s) at text)
       in

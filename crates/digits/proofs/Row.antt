@@ -52,9 +52,9 @@ module _ {ns text₀ : List ℕ} {at : ℕ} where
       omega (arith, room s r, ap length (next ns i h), length-append (cell (get_or ns i 0) space) (row (drop (suc i) ns)))
 
   -- whatever byte comes after it
-  pub room-last : {text : List ℕ} {end i : ℕ} (after : ℕ) → RowSoFar ns text₀ at text end i → at + length (row ns) ≤ length text₀ → suc i ≡ length ns
+  pub room_last : {text : List ℕ} {end i : ℕ} (after : ℕ) → RowSoFar ns text₀ at text end i → at + length (row ns) ≤ length text₀ → suc i ≡ length ns
       → end + length (cell (last_of ns) after) ≤ length text
-  room-last {i = i} after s r h =
+  room_last {i = i} after s r h =
       omega (
         arith,
         room s r,
@@ -75,9 +75,9 @@ module _ {ns text₀ : List ℕ} {at : ℕ} where
       })
 
   -- and the last
-  pub all-printed : {text text' : List ℕ} {end end' i : ℕ} → RowSoFar ns text₀ at text end i → suc i ≡ length ns
+  pub all_printed : {text text' : List ℕ} {end end' i : ℕ} → RowSoFar ns text₀ at text end i → suc i ≡ length ns
       → Puts text end (cell (last_of ns) line_feed) text' end' → Puts text₀ at (row ns) text' end'
-  all-printed {i = i} s h p = puts_as (ap (λ (l : List ℕ). s.piece ++ l) (sym (last ns i h)) ∙ s.whole) (puts_more s.puts p)
+  all_printed {i = i} s h p = puts_as (ap (λ (l : List ℕ). s.piece ++ l) (sym (last ns i h)) ∙ s.whole) (puts_more s.puts p)
 
 -- HOW LONG A ROW CAN BE, by how many digits each number can have
 pub row_length : (ks ns : List ℕ) → Within ks ns → length (row ns) ≤ row_bytes ks

@@ -19,16 +19,16 @@ use Rattle.fields.proofs.Steps.{AllWhole, fields_joined, fields_none, none_there
 
 -- ---- a field as it is written
 module _ (tag : ℕ) (body : List ℕ) (h : length body < 2 ^ 16) where
-  length-written : length_in (field_of tag body) ≡ length body
-  length-written = value_bytes 2 (length body) ∙ mod-eq_of_lt h
+  length_written : length_in (field_of tag body) ≡ length body
+  length_written = value_bytes 2 (length body) ∙ mod-eq_of_lt h
 
-  pub body-written : body_in (field_of tag body) ≡ body
-  body-written = ap (λ (n : ℕ). take n body) length-written ∙ take-length body
+  pub body_written : body_in (field_of tag body) ≡ body
+  body_written = ap (λ (n : ℕ). take n body) length_written ∙ take-length body
 
-  pub whole-written : is_unknown tag ≡ false → is_wrong tag (length body) ≡ false → Whole (field_of tag body)
-  whole-written u w =
-      let g : Good (field_of tag body) = record { whole = omega (arith, length-written); known = u; right = rw length-written w } in
-      record { good = g; size = size_is (field_of tag body) (good_by (field_of tag body) g) ∙ ap (λ (n : ℕ). 3 + n) length-written ∙ omega arith }
+  pub whole_written : is_unknown tag ≡ false → is_wrong tag (length body) ≡ false → Whole (field_of tag body)
+  whole_written u w =
+      let g : Good (field_of tag body) = record { whole = omega (arith, length_written); known = u; right = rw length_written w } in
+      record { good = g; size = size_is (field_of tag body) (good_by (field_of tag body) g) ∙ ap (λ (n : ℕ). 3 + n) length_written ∙ omega arith }
 
 -- ---- an item is a whole field, and its calls are its own
 abbrev body_of : ℕ → ℕ → List ℕ → List ℕ
@@ -40,9 +40,9 @@ sixteen c epoch s e = omega (arith, e)
 pub item_whole : (i : Item) → Fits i → Whole (written i)
 unfolding written
 item_whole (Asks (Offer c epoch s)) f =
-    whole-written 1 (body_of c epoch s) (omega (arith, sixteen c epoch s f.1)) refl (ap (is_wrong 1) (sixteen c epoch s f.1))
-item_whole (Asks (Reset c)) f = whole-written 2 (c ∷ []) (omega arith) refl refl
-item_whole (Remarks bytes) f = whole-written 3 bytes f refl refl
+    whole_written 1 (body_of c epoch s) (omega (arith, sixteen c epoch s f.1)) refl (ap (is_wrong 1) (sixteen c epoch s f.1))
+item_whole (Asks (Reset c)) f = whole_written 2 (c ∷ []) (omega arith) refl refl
+item_whole (Remarks bytes) f = whole_written 3 bytes f refl refl
 
 abbrev called_by : Item → List Call
 called_by (Asks call) = call ∷ []
@@ -54,9 +54,9 @@ offer_read c epoch s h e = ap₂ (Offer c) (value_bytes 4 epoch ∙ mod-eq_of_lt
 pub item_calls : (i : Item) → Fits i → call_in (written i) ≡ called_by i
 unfolding written call_in
 item_calls (Asks (Offer c epoch s)) f =
-    ap (λ (b : List ℕ). offer_of b ∷ []) (body-written 1 (body_of c epoch s) (omega (arith, sixteen c epoch s f.1)))
+    ap (λ (b : List ℕ). offer_of b ∷ []) (body_written 1 (body_of c epoch s) (omega (arith, sixteen c epoch s f.1)))
     ∙ ap (λ (x : Call). x ∷ []) (offer_read c epoch s f.0 f.1)
-item_calls (Asks (Reset c)) f = ap (λ (b : List ℕ). reset_of b ∷ []) (body-written 2 (c ∷ []) (omega arith))
+item_calls (Asks (Reset c)) f = ap (λ (b : List ℕ). reset_of b ∷ []) (body_written 2 (c ∷ []) (omega arith))
 item_calls (Remarks bytes) f = refl
 
 -- ---- and so are all of them

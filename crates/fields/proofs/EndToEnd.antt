@@ -14,7 +14,7 @@ use Rattle.strings.specs.Numbers.{answer_of}
 use Rattle.fields.specs.Fields.{tag_in, length_in, is_unknown, is_wrong, is_cut, tests_in}
 use Rattle.fields.specs.Block.{Call, call_in, fields_in, calls_of, joined, end_at, end_in}
 use Rattle.fields.specs.Laws.{onward, Follow}
-use Rattle.fields.proofs.Tested.{three, refused-never}
+use Rattle.fields.proofs.Tested.{three, refused_never}
 use Rattle.fields.proofs.Steps.{fields_joined, fields_whole, fields_front, stop_in, end_is}
 
 -- ---- a block that ends whole is its fields, one after the other
@@ -24,7 +24,7 @@ module _ (a : List ℕ) where
   by_end true place e p =
       sym (append-nil (joined (fields_in a))) ∙ ap (λ (l : List ℕ). joined (fields_in a) ++ l) (sym (drop_of_length-le a (leb-true (length a) (stop_in a) e)))
       ∙ (fields_front a).front
-  by_end false place e p = absurd (refused-never place (drop (stop_in a) a) [] [] (fields_front a).stop p)
+  by_end false place e p = absurd (refused_never place (drop (stop_in a) a) [] [] (fields_front a).stop p)
 
   pub whole_is : end_in a ≡ 0 ∷ [] → joined (fields_in a) ≡ a
   whole_is p = by_end (leb (length a) (stop_in a)) _ refl (sym (end_is a) ∙ p)

@@ -20,8 +20,8 @@ use Rattle.fields.specs.declared.Field.TheVariants.{End, Offer, Reset, Remark, R
 use Rattle.fields.specs.Fields.{tag_in, is_unknown, tests_in, is_good, size_in, size_at, field_paper, told_of, said_at, Finds}
 use Rattle.fields.specs.Block.{call_in}
 use Rattle.fields.specs.Laws.{bytes_at, elsewhere, Same}
-use Rattle.fields.proofs.Whole.{good_parts, good_size, size-then, calls-then, front_length, good-front, alone, calls-front}
-use Rattle.fields.proofs.Tested.{good-tells, refused-tells, refused-never}
+use Rattle.fields.proofs.Whole.{good_parts, good_size, size_then, calls_then, front_length, good_front, alone, calls_front}
+use Rattle.fields.proofs.Tested.{good_tells, refused_tells, refused_never}
 
 -- ---- a field is known by its numbers
 why_by : ℕ → Why
@@ -60,39 +60,39 @@ unfolding said_at
 said_end block at h = rw (le-leb (length block) at h)
 
 module _ (block : List ℕ) (at : ℕ) (before : at < length block) where
-  pub good-said : is_good (drop at block) ≡ true → said_at block at ≡ 0 ∷ told_of at (tag_in (drop at block))
-  good-said e = said_before block at before ∙ good-tells at (drop at block) (told_of at (tag_in (drop at block))) e
+  pub good_said : is_good (drop at block) ≡ true → said_at block at ≡ 0 ∷ told_of at (tag_in (drop at block))
+  good_said e = said_before block at before ∙ good_tells at (drop at block) (told_of at (tag_in (drop at block))) e
 
   pub refused_said : is_good (drop at block) ≡ false → said_at block at ≡ answer_of (tests_in at (drop at block)) []
-  refused_said e = said_before block at before ∙ refused-tells at (drop at block) (told_of at (tag_in (drop at block))) e
+  refused_said e = said_before block at before ∙ refused_tells at (drop at block) (told_of at (tag_in (drop at block))) e
 
   -- 0 and a tag: the field is good, and tells it
-  pub good-by-said : (l : List ℕ) → said_at block at ≡ 0 ∷ l → (is_good (drop at block) ≡ true) × (told_of at (tag_in (drop at block)) ≡ l)
-  good-by-said l p = by (is_good (drop at block)) refl
+  pub good_by_said : (l : List ℕ) → said_at block at ≡ 0 ∷ l → (is_good (drop at block) ≡ true) × (told_of at (tag_in (drop at block)) ≡ l)
+  good_by_said l p = by (is_good (drop at block)) refl
     where
       by : (b : Bool) → is_good (drop at block) ≡ b → (is_good (drop at block) ≡ true) × (told_of at (tag_in (drop at block)) ≡ l)
-      by true e = (e, ap (drop 1) (sym (good-said e) ∙ p))
-      by false e = absurd (refused-never at (drop at block) [] l e (sym (refused_said e) ∙ p))
+      by true e = (e, ap (drop 1) (sym (good_said e) ∙ p))
+      by false e = absurd (refused_never at (drop at block) [] l e (sym (refused_said e) ∙ p))
 
 -- ---- THE END IS TOLD EXACTLY at the end and past it
 module _ (block : List ℕ) (at : ℕ) (f : Field) (after : ℕ) (h : Finds block at f after) where
-  told-end : f ≡ End → length block ≤ at
-  told-end e = by (leb (length block) at) refl
+  told_end : f ≡ End → length block ≤ at
+  told_end e = by (leb (length block) at) refl
     where
       by : (b : Bool) → leb (length block) at ≡ b → length block ≤ at
       by true q = leb-true (length block) at q
       by false q =
           let l = leb-false (length block) at q in
-          let g = good-by-said block at l (0 ∷ []) (sym h.answer ∙ ap field_paper e) in
+          let g = good_by_said block at l (0 ∷ []) (sym h.answer ∙ ap field_paper e) in
           let z : tag_in (drop at block) ≡ 0 = ap (λ (x : List ℕ). get_or x 0 0) g.1 in
           absurd (true≢false (sym (ap is_unknown z) ∙ (good_parts (drop at block) g.0).known))
 
   pub ends : (f ≡ End) ↔ (length block ≤ at)
-  ends = (told-end, (λ l. field_same f End (h.answer ∙ said_end block at l)))
+  ends = (told_end, (λ l. field_same f End (h.answer ∙ said_end block at l)))
 
   -- ---- EACH NUMBER EXACTLY where its test is the first to fit
-  pub numbers-exactly : at < length block → Exactly (tests_in at (drop at block)) (field_paper f)
-  numbers-exactly l =
+  pub numbers_exactly : at < length block → Exactly (tests_in at (drop at block)) (field_paper f)
+  numbers_exactly l =
       exactly {made = []} {out = []} tt (record { answer = h.answer ∙ said_before block at l; output = refl })
 
 -- ---- A GOOD FIELD IS GOOD WHEREVER ITS BYTES STAND
@@ -102,6 +102,6 @@ anywhere block at before after h =
     let e = good_size rest h in
     let d = drop-append_seam before (bytes_at block at ++ after) in
     record {
-      size = ap size_in d ∙ size-then (bytes_at block at) after (good-front rest e) ∙ (alone rest e).size ∙ front_length rest e;
-      calls = ap call_in d ∙ calls-then (bytes_at block at) after (good-front rest e) ∙ calls-front rest e;
+      size = ap size_in d ∙ size_then (bytes_at block at) after (good_front rest e) ∙ (alone rest e).size ∙ front_length rest e;
+      calls = ap call_in d ∙ calls_then (bytes_at block at) after (good_front rest e) ∙ calls_front rest e;
     }

@@ -13,7 +13,7 @@ use borrow.Author.Tests.{le-leb}
 use Rattle.strings.specs.Pick.{pick}
 use Rattle.fields.specs.Fields.{is_good, size_in}
 use Rattle.fields.specs.Block.{fields_over, fields_in, joined, end_at, end_from, end_in}
-use Rattle.fields.proofs.Whole.{Whole, shorter, good_by, good-then, size-then, front_length, alone}
+use Rattle.fields.proofs.Whole.{Whole, shorter, good_by, good_then, size_then, front_length, alone}
 
 -- ---- by a test that is known, or not yet
 picked : (b : Bool) (x y : List (List ℕ)) → (b ≡ true → x ≡ y) → pick b x [] ≡ pick b y []
@@ -69,8 +69,8 @@ unfolding joined
 fields_joined [] b a = refl
 fields_joined (f ∷ fs) b a =
     let q = joined fs ++ b in
-    let n : size_in (f ++ q) ≡ length f = size-then f q a.0.good ∙ a.0.size in
-    ap fields_in (append_assoc f (joined fs) b) ∙ fields_good (f ++ q) (good_by (f ++ q) (good-then f q a.0.good))
+    let n : size_in (f ++ q) ≡ length f = size_then f q a.0.good ∙ a.0.size in
+    ap fields_in (append_assoc f (joined fs) b) ∙ fields_good (f ++ q) (good_by (f ++ q) (good_then f q a.0.good))
     ∙ ap₂ (λ (x : List ℕ) (y : List (List ℕ)). x ∷ y) (ap (λ (k : ℕ). take k (f ++ q)) n ∙ take-append_seam f q)
     (ap (λ (k : ℕ). fields_in (drop k (f ++ q))) n ∙ ap fields_in (drop-append_seam f q) ∙ fields_joined fs b a.1)
 

@@ -43,14 +43,14 @@ module _ (at : ℕ) (rest told : List ℕ) where
   abbrev wrong : Bool
   wrong = is_wrong (tag_in rest) (length_in rest)
 
-  pub good-tells : is_good rest ≡ true → answer_of (tests_in at rest) told ≡ 0 ∷ told
+  pub good_tells : is_good rest ≡ true → answer_of (tests_in at rest) told ≡ 0 ∷ told
   unfolding is_good
-  good-tells = tells cut unknown wrong at told
+  good_tells = tells cut unknown wrong at told
 
-  pub refused-tells : is_good rest ≡ false → answer_of (tests_in at rest) told ≡ answer_of (tests_in at rest) []
+  pub refused_tells : is_good rest ≡ false → answer_of (tests_in at rest) told ≡ answer_of (tests_in at rest) []
   unfolding is_good
-  refused-tells = tells_none cut unknown wrong at told
+  refused_tells = tells_none cut unknown wrong at told
 
-  pub refused-never : (l : List ℕ) → is_good rest ≡ false → answer_of (tests_in at rest) told ≡ 0 ∷ l → ⊥
+  pub refused_never : (l : List ℕ) → is_good rest ≡ false → answer_of (tests_in at rest) told ≡ 0 ∷ l → ⊥
   unfolding is_good
-  refused-never = never cut unknown wrong at told
+  refused_never = never cut unknown wrong at told

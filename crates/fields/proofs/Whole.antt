@@ -56,11 +56,11 @@ good_size rest h = by (is_good rest) refl
 
 -- ---- a field with any bytes after it
 module _ (f q : List ℕ) (h : 3 ≤ length f) where
-  pub tag-then : tag_in (f ++ q) ≡ tag_in f
-  tag-then = get_or-append f q 0 0 (omega arith)
+  pub tag_then : tag_in (f ++ q) ≡ tag_in f
+  tag_then = get_or-append f q 0 0 (omega arith)
 
-  pub length-then : length_in (f ++ q) ≡ length_in f
-  length-then =
+  pub length_then : length_in (f ++ q) ≡ length_in f
+  length_then =
       ap (λ (l : List ℕ). value_of (take 2 l)) (drop-append-le 1 f q (omega arith))
       ∙ ap value_of (take-append-le 2 (drop 1 f) q (omega (arith, length-drop 1 f)))
 
@@ -68,25 +68,25 @@ module _ (f q : List ℕ) (g : Good f) where
   three : 3 ≤ length f
   three = omega (arith, g.whole)
 
-  pub good-then : Good (f ++ q)
-  good-then =
+  pub good_then : Good (f ++ q)
+  good_then =
       record {
-        whole = omega (arith, g.whole, length-then f q three, length-append f q);
-        known = rw (tag-then f q three) g.known;
-        right = rw (tag-then f q three, length-then f q three) g.right;
+        whole = omega (arith, g.whole, length_then f q three, length-append f q);
+        known = rw (tag_then f q three) g.known;
+        right = rw (tag_then f q three, length_then f q three) g.right;
       }
 
-  pub size-then : size_in (f ++ q) ≡ size_in f
-  size-then = size_is (f ++ q) (good_by (f ++ q) good-then) ∙ ap (λ (n : ℕ). 3 + n) (length-then f q three) ∙ sym (size_is f (good_by f g))
+  pub size_then : size_in (f ++ q) ≡ size_in f
+  size_then = size_is (f ++ q) (good_by (f ++ q) good_then) ∙ ap (λ (n : ℕ). 3 + n) (length_then f q three) ∙ sym (size_is f (good_by f g))
 
-  body-then : body_in (f ++ q) ≡ body_in f
-  body-then =
-      ap₂ take (length-then f q three) (drop-append-le 3 f q three)
+  body_then : body_in (f ++ q) ≡ body_in f
+  body_then =
+      ap₂ take (length_then f q three) (drop-append-le 3 f q three)
       ∙ take-append-le (length_in f) (drop 3 f) q (omega (arith, g.whole, length-drop 3 f))
 
-  pub calls-then : call_in (f ++ q) ≡ call_in f
+  pub calls_then : call_in (f ++ q) ≡ call_in f
   unfolding call_in
-  calls-then = rw (tag-then f q three, body-then)
+  calls_then = rw (tag_then f q three, body_then)
 
 -- ---- the bytes of a good field alone: a good field, and no byte more
 pub record Whole (f : List ℕ) : Type 0 where
@@ -100,29 +100,29 @@ module _ (rest : List ℕ) (e : is_good rest ≡ true) where
   pub front_length : length front ≡ size_in rest
   front_length = length-take-le (size_in rest) rest (omega (arith, size_is rest e, (good_parts rest e).whole))
 
-  three-front : 3 ≤ length front
-  three-front = omega (arith, front_length, size_is rest e)
+  three_front : 3 ≤ length front
+  three_front = omega (arith, front_length, size_is rest e)
 
-  tag-front : tag_in front ≡ tag_in rest
-  tag-front = sym (tag-then front (drop (size_in rest) rest) three-front) ∙ ap tag_in (take-append-drop (size_in rest) rest)
+  tag_front : tag_in front ≡ tag_in rest
+  tag_front = sym (tag_then front (drop (size_in rest) rest) three_front) ∙ ap tag_in (take-append-drop (size_in rest) rest)
 
   length_front : length_in front ≡ length_in rest
-  length_front = sym (length-then front (drop (size_in rest) rest) three-front) ∙ ap length_in (take-append-drop (size_in rest) rest)
+  length_front = sym (length_then front (drop (size_in rest) rest) three_front) ∙ ap length_in (take-append-drop (size_in rest) rest)
 
-  pub good-front : Good front
-  good-front =
+  pub good_front : Good front
+  good_front =
       record {
         whole = omega (arith, length_front, front_length, size_is rest e);
-        known = rw tag-front (good_parts rest e).known;
-        right = rw (tag-front, length_front) (good_parts rest e).right;
+        known = rw tag_front (good_parts rest e).known;
+        right = rw (tag_front, length_front) (good_parts rest e).right;
       }
 
   pub alone : Whole front
   alone =
       record {
-        good = good-front;
-        size = size_is front (good_by front good-front) ∙ ap (λ (n : ℕ). 3 + n) length_front ∙ sym (size_is rest e) ∙ sym front_length;
+        good = good_front;
+        size = size_is front (good_by front good_front) ∙ ap (λ (n : ℕ). 3 + n) length_front ∙ sym (size_is rest e) ∙ sym front_length;
       }
 
-  pub calls-front : call_in front ≡ call_in rest
-  calls-front = sym (calls-then front (drop (size_in rest) rest) good-front) ∙ ap call_in (take-append-drop (size_in rest) rest)
+  pub calls_front : call_in front ≡ call_in rest
+  calls_front = sym (calls_then front (drop (size_in rest) rest) good_front) ∙ ap call_in (take-append-drop (size_in rest) rest)

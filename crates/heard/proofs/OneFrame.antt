@@ -16,7 +16,7 @@ use Rattle.channel.specs.Offers.{news_number}
 use Rattle.channel.specs.History.{Call, held_after, said_to}
 use Rattle.sky.specs.Line.{relative_bytes}
 use Rattle.heard.specs.Heard.{Sendable, offers, in_order, OneFrame, Ready, HasFirst, news_in, FrameHeard}
-use Rattle.heard.proofs.Taking.{Opens, opens-first, opens-next, opens-frame, opens-said, opens-has}
+use Rattle.heard.proofs.Taking.{Opens, opens_first, opens_next, opens_frame, opens_said, opens_has}
 
 -- ---- the news
 built : (b : Bool) → news_number (pick b RecordBuilt RecordOutOfRange) ≡ pick b 2 3
@@ -67,37 +67,37 @@ module _ (string : ℕ → ℕ) (e : ℕ) (before : List Call) (all : OneFrame s
   -- the frame after a string that comes next
   after_is : (k : ℕ) → k < 15 → Next k → after (suc k) ≡ with_string (frame_for (after k) e) (string (suc k))
   unfolding offers held_after
-  after_is k l o = opens-frame string (after k) e k (string (suc k)) (one k l) o
+  after_is k l o = opens_frame string (after k) e k (string (suc k)) (one k l) o
 
   held_next : (k : ℕ) → k < 15 → Next k → (after (suc k)).held ≡ true
   held_next k l o = ap (λ (f : Frame). f.held) (after_is k l o)
 
   first_next : (k : ℕ) → k < 15 → Next k → HasFirst string e (suc k) (after (suc k))
-  first_next k l o = subst (HasFirst string e (suc k)) (sym (after_is k l o)) (opens-has string (after k) e k (string (suc k)) (one k l) o refl)
+  first_next k l o = subst (HasFirst string e (suc k)) (sym (after_is k l o)) (opens_has string (after k) e k (string (suc k)) (one k l) o refl)
 
   -- each comes next
   comes : (k : ℕ) → k < 15 → Next k
   unfolding offers
-  comes zero l = opens-first string (held_after before) e 0 (string 1) (one 0 l) refl ready
+  comes zero l = opens_first string (held_after before) e 0 (string 1) (one 0 l) refl ready
   comes (suc k) l =
       let o = comes k (omega arith) in
-      opens-next string (after (suc k)) e (suc k) (string (suc (suc k))) (one (suc k) l) (held_next k (omega arith) o) (first_next k (omega arith) o)
+      opens_next string (after (suc k)) e (suc k) (string (suc (suc k))) (one (suc k) l) (held_next k (omega arith) o) (first_next k (omega arith) o)
 
-  said-next : (k : ℕ) → k < 15 → said_to (after k) (e + k) (relative_bytes (string (suc k))) ≡ 0 ∷ suc k ∷ 0 ∷ 0 ∷ news_in string (suc k) ∷ 0 ∷ []
-  said-next k l =
+  said_next : (k : ℕ) → k < 15 → said_to (after k) (e + k) (relative_bytes (string (suc k))) ≡ 0 ∷ suc k ∷ 0 ∷ 0 ∷ news_in string (suc k) ∷ 0 ∷ []
+  said_next k l =
       let o = comes k l in
       let f = with_string (frame_for (after k) e) (string (suc k)) in
-      opens-said string (after k) e k (string (suc k)) (one k l) o
-      ∙ ap (λ (w : ℕ). 0 ∷ suc k ∷ 0 ∷ 0 ∷ w ∷ 0 ∷ []) (news_is string e (suc k) f (opens-has string (after k) e k (string (suc k)) (one k l) o refl))
+      opens_said string (after k) e k (string (suc k)) (one k l) o
+      ∙ ap (λ (w : ℕ). 0 ∷ suc k ∷ 0 ∷ 0 ∷ w ∷ 0 ∷ []) (news_is string e (suc k) f (opens_has string (after k) e k (string (suc k)) (one k l) o refl))
 
   -- FIFTEEN STRINGS OF ONE FRAME IN ORDER ARE TAKEN, CLEAN, AND LEAVE IT WHOLE
-  pub frame-heard : FrameHeard string e before
-  frame-heard = record { said = said-next; held = held-at; first = first-at }
+  pub frame_heard : FrameHeard string e before
+  frame_heard = record { said = said_next; held = held_at_lem; first = first_at }
     where
-      held-at : (k : ℕ) → 1 ≤ k → k ≤ 15 → (after k).held ≡ true
-      held-at zero l u = absurd (omega arith)
-      held-at (suc k) l u = held_next k (omega arith) (comes k (omega arith))
+      held_at_lem : (k : ℕ) → 1 ≤ k → k ≤ 15 → (after k).held ≡ true
+      held_at_lem zero l u = absurd (omega arith)
+      held_at_lem (suc k) l u = held_next k (omega arith) (comes k (omega arith))
 
-      first-at : (k : ℕ) → 1 ≤ k → k ≤ 15 → HasFirst string e k (after k)
-      first-at zero l u = absurd (omega arith)
-      first-at (suc k) l u = first_next k (omega arith) (comes k (omega arith))
+      first_at : (k : ℕ) → 1 ≤ k → k ≤ 15 → HasFirst string e k (after k)
+      first_at zero l u = absurd (omega arith)
+      first_at (suc k) l u = first_next k (omega arith) (comes k (omega arith))

@@ -20,7 +20,7 @@ use Rattle.channel.specs.Frame.{Frame}
 use Rattle.shows.specs.Shows.{shown_at, is_pair}
 use Rattle.station.specs.declared.Station.{Station}
 use Rattle.station.specs.History.{Call, ShownIn, Runs}
-use Rattle.station.proofs.BookRule.{empty-exactly, greatest-there, slot_holds}
+use Rattle.station.proofs.BookRule.{empty_exactly, greatest_there, slot_holds}
 use Rattle.station.proofs.Holding.{Dated}
 use Rattle.heard.specs.Heard.{HasFirst, is_pair_of, shown_first}
 
@@ -58,14 +58,14 @@ good_shows five even odd a b c d = rw (a, le-leb 1 (four_years five) b, c, d)
 
 -- ---- A SLOT FOR WHICH ONE ENTRY ALONE WAS SHOWN HOLDS IT: the greatest of equal entries is that entry
 module _ (cs : List Call) (st : Station) (run : Runs cs st) (k : ℕ) (least : 1 ≤ k) (most : k ≤ 24) (t : Three) (shown : ShownIn cs k t) where
-  pub some-shown : (in_slot st.book k).day ≡ 0 → ⊥
-  some-shown z = (empty-exactly cs st run k least most).0 z t shown
+  pub some_shown : (in_slot st.book k).day ≡ 0 → ⊥
+  some_shown z = (empty_exactly cs st run k least most).0 z t shown
 
-  pub only-shown : ((u : Three) → ShownIn cs k u → u ≡ t) → meaning (in_slot st.book k) ≡ t
-  only-shown all = all (meaning (in_slot st.book k)) (greatest-there cs st run k least most some-shown).shown
+  pub only_shown : ((u : Three) → ShownIn cs k u → u ≡ t) → meaning (in_slot st.book k) ≡ t
+  only_shown all = all (meaning (in_slot st.book k)) (greatest_there cs st run k least most some_shown).shown
 
   -- an entry that was shown is what its three numbers say
-  pub slot-dated : entry_of (meaning (in_slot st.book k)) ≡ in_slot st.book k
-  slot-dated =
+  pub slot_dated : entry_of (meaning (in_slot st.book k)) ≡ in_slot st.book k
+  slot_dated =
       ⊎_elim (λ (w : ShownIn cs k (meaning (in_slot st.book k)) × Dated (in_slot st.book k)). w.1.1)
       (λ (w : (in_slot st.book k ≡ blank) × ((u : Three) → ShownIn cs k u → ⊥)). absurd (w.1 t shown)) (slot_holds cs st run k least most).one

@@ -25,7 +25,7 @@ use Rattle.relative.specs.Relative.{write_relative}
 use Rattle.relative.specs.Polarity.{first_symbol}
 use Rattle.relative.proofs.RelativeCode.{written_lt, first_written}
 use Rattle.hearing.specs.Hears.{plain_of, whole_of}
-use Rattle.hearing.proofs.Hearing.{heard-then}
+use Rattle.hearing.proofs.Hearing.{heard_then}
 use Rattle.words.specs.Calls.{number_in}
 use Rattle.channel.specs.Frame.{Frame, empty_frame, with_string, start_of, is_here, place_tests, frame_for, after_string, news_at}
 use Rattle.channel.specs.Offers.{news_number, offer_tests, told_to}
@@ -36,39 +36,39 @@ use Rattle.heard.specs.Heard.{Sendable, Ready, HasFirst}
 
 -- ---- what the relative form brings
 module _ (n m : ℕ) (s : Sendable n m) where
-  brings-shape : misshapen (relative_bytes n) ≡ false
+  brings_shape : misshapen (relative_bytes n) ≡ false
   unfolding relative_bytes
-  brings-shape = string_shaped (write_relative n) (written_lt n)
+  brings_shape = string_shaped (write_relative n) (written_lt n)
 
-  pub brings-plain : plain_of (relative_bytes n) ≡ n
-  brings-plain = plain_back n s.small
+  pub brings_plain : plain_of (relative_bytes n) ≡ n
+  brings_plain = plain_back n s.small
 
   stays : mended n ≡ n
   stays = mended_by_lem n Clean (encoded_ruling n s.encoded)
 
-  pub brings-whole : whole_of (relative_bytes n) ≡ n
-  brings-whole = ap mended brings-plain ∙ stays
+  pub brings_whole : whole_of (relative_bytes n) ≡ n
+  brings_whole = ap mended brings_plain ∙ stays
 
-  not-idle : is_idle n ≡ false
-  not-idle = ap (λ (b : ℕ). eqb b 1) (high_bit n 85 84 s.small (omega arith))
+  not_idle : is_idle n ≡ false
+  not_idle = ap (λ (b : ℕ). eqb b 1) (high_bit n 85 84 s.small (omega arith))
 
   -- it is upright, since its first symbol is bit 85
-  pub brings-upright : first_symbol (number_of (relative_bytes n)) ≡ 0
+  pub brings_upright : first_symbol (number_of (relative_bytes n)) ≡ 0
   unfolding relative_bytes
-  brings-upright = ap first_symbol (string_number_lem (write_relative n) (written_lt n)) ∙ first_written n s.small
+  brings_upright = ap first_symbol (string_number_lem (write_relative n) (written_lt n)) ∙ first_written n s.small
 
   sounds : IsSound (plain_of (relative_bytes n))
   sounds =
       record {
-        sound = ap (λ (x : ℕ). is_damaged (ruling x)) brings-plain ∙ ap is_damaged (encoded_ruling n s.encoded);
-        idle = ap is_idle brings-whole ∙ not-idle;
+        sound = ap (λ (x : ℕ). is_damaged (ruling x)) brings_plain ∙ ap is_damaged (encoded_ruling n s.encoded);
+        idle = ap is_idle brings_whole ∙ not_idle;
       }
 
   -- SHAPE, DAMAGED and IDLE do not fit
   tests_left : (f : Frame) (epoch : ℕ) → first_of (offer_tests f epoch (relative_bytes n)) ≡ first_of (place_tests f epoch n)
   tests_left f epoch =
-      (heard-then (relative_bytes n) (place_tests f epoch (whole_of (relative_bytes n))) brings-shape sounds).0
-      ∙ ap (λ (x : ℕ). first_of (place_tests f epoch x)) brings-whole
+      (heard_then (relative_bytes n) (place_tests f epoch (whole_of (relative_bytes n))) brings_shape sounds).0
+      ∙ ap (λ (x : ℕ). first_of (place_tests f epoch x)) brings_whole
 
 -- ---- the next string of a frame
 -- what is held lets string k+1 of a frame that starts at e come next, and the frame that it joins has the first k
@@ -87,39 +87,39 @@ module _ (string : ℕ → ℕ) (f : Frame) (e k n : ℕ) (s : Sendable n (suc k
   starts : start_of (e + k) n ≡ e
   starts = rw s.number (omega arith)
 
-  on-time : ltb (e + k) (number_in n - 1) ≡ false
-  on-time = le-ltb (e + k) (number_in n - 1) (omega (arith, s.number))
+  on_time : ltb (e + k) (number_in n - 1) ≡ false
+  on_time = le-ltb (e + k) (number_in n - 1) (omega (arith, s.number))
 
   numbered : eqb (number_in n) 0 ≡ false
   numbered = ne_eqb (number_in n) 0 (λ q. omega (arith, s.number))
 
   -- the first string of a frame: one that starts 15 or more before is held, or none
-  opens-after : f.start + 15 ≤ e → k ≡ 0 → f.held ≡ true → Opens string e k n f
-  opens-after l z h =
+  opens_after : f.start + 15 ≤ e → k ≡ 0 → f.held ≡ true → Opens string e k n f
+  opens_after l z h =
       let other : eqb e f.start ≡ false = ne_eqb e f.start (λ q. omega arith) in
       record {
-        clear = rw (starts, on-time, numbered, s.number, h, le-ltb e f.start (omega arith), lt-ltb f.start e (omega arith), le-ltb e (f.start + 15) (omega arith), other);
+        clear = rw (starts, on_time, numbered, s.number, h, le-ltb e f.start (omega arith), lt-ltb f.start e (omega arith), le-ltb e (f.start + 15) (omega arith), other);
         new = rw (starts, h, other);
         base = rw (h, other, z) (empty_first string e);
       }
 
-  opens-none : k ≡ 0 → f.held ≡ false → Opens string e k n f
-  opens-none z h = record { clear = rw (on-time, numbered, h); new = rw h; base = rw (h, z) (empty_first string e) }
+  opens_none : k ≡ 0 → f.held ≡ false → Opens string e k n f
+  opens_none z h = record { clear = rw (on_time, numbered, h); new = rw h; base = rw (h, z) (empty_first string e) }
 
-  pub opens-first : k ≡ 0 → Ready f e → Opens string e k n f
-  opens-first z r = ⊎_elim (opens-none z) (λ (l : f.start + 15 ≤ e). by l f.held refl) r
+  pub opens_first : k ≡ 0 → Ready f e → Opens string e k n f
+  opens_first z r = ⊎_elim (opens_none z) (λ (l : f.start + 15 ≤ e). by l f.held refl) r
     where
       by : f.start + 15 ≤ e → (b : Bool) → f.held ≡ b → Opens string e k n f
-      by l true h = opens-after l z h
-      by l false h = opens-none z h
+      by l true h = opens_after l z h
+      by l false h = opens_none z h
 
   -- a later one: the frame is held
-  pub opens-next : f.held ≡ true → HasFirst string e k f → Opens string e k n f
-  opens-next h i =
+  pub opens_next : f.held ≡ true → HasFirst string e k f → Opens string e k n f
+  opens_next h i =
       let own : eqb e f.start ≡ true = eq-eqb e f.start (sym i.start) in
       let free : f.has (suc k) ≡ false = i.rest (suc k) (omega arith) in
       record {
-        clear = rw (starts, on-time, numbered, s.number, h, le-ltb e f.start (omega (arith, i.start)), le-ltb f.start e (omega (arith, i.start)), own, free);
+        clear = rw (starts, on_time, numbered, s.number, h, le-ltb e f.start (omega (arith, i.start)), le-ltb f.start e (omega (arith, i.start)), own, free);
         new = rw (starts, s.number, h, own, free);
         base = subst (HasFirst string e k) (sym (ap₂ (λ (a b : Bool). pick (a && b) f (empty_frame e)) h own)) i;
       }
@@ -132,17 +132,17 @@ module _ (string : ℕ → ℕ) (f : Frame) (e k n : ℕ) (s : Sendable n (suc k
     taken : first_of (offer_tests f (e + k) (relative_bytes n)) ≡ 0
     taken = tests_left n (suc k) s f (e + k) ∙ o.clear
 
-    pub opens-frame : frame_after f (e + k) (relative_bytes n) ≡ next
-    opens-frame = ap (λ (b : Bool). pick b (after_string f (e + k) (whole_of (relative_bytes n))) f) (eq-eqb _ 0 taken) ∙ ap (after_string f (e + k)) (brings-whole n (suc k) s)
+    pub opens_frame : frame_after f (e + k) (relative_bytes n) ≡ next
+    opens_frame = ap (λ (b : Bool). pick b (after_string f (e + k) (whole_of (relative_bytes n))) f) (eq-eqb _ 0 taken) ∙ ap (after_string f (e + k)) (brings_whole n (suc k) s)
         ∙ rw (o.new, starts)
 
-    pub opens-said : said_to f (e + k) (relative_bytes n) ≡ 0 ∷ suc k ∷ 0 ∷ 0 ∷ news_number (news_at next (suc k)) ∷ 0 ∷ []
-    opens-said =
+    pub opens_said : said_to f (e + k) (relative_bytes n) ≡ 0 ∷ suc k ∷ 0 ∷ 0 ∷ news_number (news_at next (suc k)) ∷ 0 ∷ []
+    opens_said =
         ap (λ (x : ℕ). said_by x (place_of (offer_tests f (e + k) (relative_bytes n))) (told_to f (e + k) (relative_bytes n))) taken
-        ∙ rw (brings-upright n (suc k) s, brings-plain n (suc k) s, stays n (suc k) s, encoded_ruling n s.encoded, o.new, starts, s.number)
+        ∙ rw (brings_upright n (suc k) s, brings_plain n (suc k) s, stays n (suc k) s, encoded_ruling n s.encoded, o.new, starts, s.number)
 
-    pub opens-has : n ≡ string (suc k) → HasFirst string e (suc k) next
-    opens-has q =
+    pub opens_has : n ≡ string (suc k) → HasFirst string e (suc k) next
+    opens_has q =
         record {
           start = o.base.start;
           has = λ m l u. by-has m (eqb m (suc k)) refl l u;

@@ -26,9 +26,9 @@ use Rattle.relative.specs.Calls.{decoded_paper, ReadsRelative}
 use Rattle.strings.proofs.Answer.{verdict_same, first_given, taken_made, not_taken}
 use Rattle.strings.proofs.Below.{unfit}
 use Rattle.strings.proofs.Tests.{past_first}
-use Rattle.strings.proofs.SoundTests.{IsSound, sound-alone, sound-first, sound-then}
+use Rattle.strings.proofs.SoundTests.{IsSound, sound_alone, sound_first, sound_then}
 use Rattle.strings.proofs.Judge.{mended_lt}
-use Rattle.relative.proofs.RelativeCode.{read_lt, reads-exactly}
+use Rattle.relative.proofs.RelativeCode.{read_lt, reads_exactly}
 use Rattle.strings.proofs.Shape.{has_room_lem, string_shaped}
 use Rattle.strings.proofs.Value.{string_number_lem}
 use Rattle.hearing.specs.Hears.{verdict_of, plain_of, whole_of, verdict_in, hear_tests, Hears}
@@ -36,9 +36,9 @@ use Rattle.hearing.specs.Hears.{verdict_of, plain_of, whole_of, verdict_in, hear
 -- ---- what the relative code says of any bytes
 module _ (s plain plain' : List ℕ) (c : Decoded) (room : length plain ≡ 11) (a : ReadsRelative s plain c plain') (out : List ℕ) where
   -- it refuses, and nothing is written
-  pub hears-no : (q : Refusal) → c ≡ NotRead q → Hears s out (NotTaken q) out
+  pub hears_no : (q : Refusal) → c ≡ NotRead q → Hears s out (NotTaken q) out
   unfolding Hears ReadsRelative
-  hears-no q e = by (misshapen s) (rw (has_room_lem plain room) at (ap decoded_paper (sym e) ∙ a.answer))
+  hears_no q e = by (misshapen s) (rw (has_room_lem plain room) at (ap decoded_paper (sym e) ∙ a.answer))
     where
       by : (b : Bool) → refusal_paper q ≡ answer_of (test 2 b ∷ []) (first_symbol (number_of s) ∷ [])
           → Answers (test 2 b ∷ sound_tests (plain_of s)) (verdict_told (ruling (plain_of s))) (bytes_of_string (whole_of s)) out (refusal_paper q) out
@@ -46,15 +46,15 @@ module _ (s plain plain' : List ℕ) (c : Decoded) (room : length plain ≡ 11) 
       by false e = absurd (not_taken q _ e)
 
   -- it reads the plain string, whichever way up it came: what the check says of that is heard
-  pub hears-on : (p : Polarity) → c ≡ Read p → (x : Checked) (out' : List ℕ) → length out ≡ 11 → Checks plain' out x out' → Hears s out x out'
+  pub hears_on : (p : Polarity) → c ≡ Read p → (x : Checked) (out' : List ℕ) → length out ≡ 11 → Checks plain' out x out' → Hears s out x out'
   unfolding Hears Checks ReadsRelative
-  hears-on p e x out' room' b =
+  hears_on p e x out' room' b =
       let done : ReadsRelative s plain (Read p) plain' = subst (λ (y : Decoded). ReadsRelative s plain y plain') e a in
       let is : plain' ≡ bytes_of_string (plain_of s) = taken_made (polarity_number p ∷ []) done in
       let small : plain_of s < 2 ^ 85 = omega (arith, read_lt (number_of s)) in
       let shape : misshapen plain' ≡ false = ap misshapen is ∙ string_shaped (plain_of s) small in
       let number : number_of plain' ≡ plain_of s = ap number_of is ∙ string_number_lem (plain_of s) small in
-      let clear : misshapen s ≡ false = unfit (misshapen s) ((reads-exactly s plain (Read p) plain' done).taken.0 refl 1 (lit< tt)) in
+      let clear : misshapen s ≡ false = unfit (misshapen s) ((reads_exactly s plain (Read p) plain' done).taken.0 refl 1 (lit< tt)) in
       record {
         answer = rw clear (rw (has_room_lem out room', shape, number) at b.answer);
         output = rw clear (rw (has_room_lem out room', shape, number) at b.output);
@@ -89,33 +89,33 @@ module _ (s out out' : List ℕ) (v : Verdict) (a : Hears s out (Taken v) out') 
   none = first_given (hear_tests s) (verdict_told (ruling (plain_of s))) a.answer
 
   pub none_fits_lem : (misshapen s ≡ false) × IsSound (plain_of s)
-  none_fits_lem = let p = past_first 1 (misshapen s) (sound_tests (plain_of s)) none in (p.0, sound-alone (plain_of s) p.1)
+  none_fits_lem = let p = past_first 1 (misshapen s) (sound_tests (plain_of s)) none in (p.0, sound_alone (plain_of s) p.1)
 
-  pub heard-clear : eqb (first_of (hear_tests s)) 0 ≡ true
-  heard-clear = eq-eqb (first_of (hear_tests s)) 0 none
+  pub heard_clear : eqb (first_of (hear_tests s)) 0 ≡ true
+  heard_clear = eq-eqb (first_of (hear_tests s)) 0 none
 
-  pub heard-bytes : out' ≡ bytes_of_string (whole_of s)
+  pub heard_bytes : out' ≡ bytes_of_string (whole_of s)
   unfolding Hears
-  heard-bytes = taken_made (verdict_paper v) a
+  heard_bytes = taken_made (verdict_paper v) a
 
-  pub heard-number : number_of out' ≡ whole_of s
-  heard-number = ap number_of heard-bytes ∙ string_number_lem (whole_of s) (whole_lt s)
+  pub heard_number : number_of out' ≡ whole_of s
+  heard_number = ap number_of heard_bytes ∙ string_number_lem (whole_of s) (whole_lt s)
 
-  pub heard-shape : misshapen out' ≡ false
-  heard-shape = ap misshapen heard-bytes ∙ string_shaped (whole_of s) (whole_lt s)
+  pub heard_shape : misshapen out' ≡ false
+  heard_shape = ap misshapen heard_bytes ∙ string_shaped (whole_of s) (whole_lt s)
 
-  pub heard-verdict : v ≡ verdict_in s
+  pub heard_verdict : v ≡ verdict_in s
   unfolding Hears rest
-  heard-verdict =
+  heard_verdict =
       let x = ruling (plain_of s) in
       verdict_is x v none_fits_lem.1.sound (ap rest (a.answer ∙ ap (λ (k : ℕ). said_by k (place_of (hear_tests s)) (verdict_told x)) none))
 
 -- ---- other tests after these
 module _ (s : List ℕ) (ts : List Test) where
   -- none fits
-  pub heard-first : first_of (hear_tests s ++ ts) ≡ 0 → (misshapen s ≡ false) × (IsSound (plain_of s) × (first_of ts ≡ 0))
-  heard-first e = let p = past_first 1 (misshapen s) (sound_tests (plain_of s) ++ ts) e in (p.0, sound-first (plain_of s) ts p.1)
+  pub heard_first : first_of (hear_tests s ++ ts) ≡ 0 → (misshapen s ≡ false) × (IsSound (plain_of s) × (first_of ts ≡ 0))
+  heard_first e = let p = past_first 1 (misshapen s) (sound_tests (plain_of s) ++ ts) e in (p.0, sound_first (plain_of s) ts p.1)
 
   -- these do not fit: the others decide
-  pub heard-then : misshapen s ≡ false → IsSound (plain_of s) → (first_of (hear_tests s ++ ts) ≡ first_of ts) × (place_of (hear_tests s ++ ts) ≡ place_of ts)
-  heard-then e i = let p = sound-then (plain_of s) i ts in (rw e p.0, rw e p.1)
+  pub heard_then : misshapen s ≡ false → IsSound (plain_of s) → (first_of (hear_tests s ++ ts) ≡ first_of ts) × (place_of (hear_tests s ++ ts) ≡ place_of ts)
+  heard_then e i = let p = sound_then (plain_of s) i ts in (rw e p.0, rw e p.1)

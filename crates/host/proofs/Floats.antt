@@ -50,25 +50,25 @@ size_of true (suc m) = refl
 size_of false m = refl
 
 module _ (n number : ℕ) (h : 1 ≤ number) (u : number ≤ 22) where
-  pub word-signed : (signed_word number).form ≡ Signed
-  word-signed = is_signed_lem (signed_word number).form (below_at 22 sign_test all_signs (number - 1) (omega arith))
+  pub word_signed : (signed_word number).form ≡ Signed
+  word_signed = is_signed_lem (signed_word number).form (below_at 22 sign_test all_signs (number - 1) (omega arith))
 
-  pub raw-is : at (values_of n (layout (kind_at number))) (place_at number) ≡ raw_in n number
-  raw-is =
+  pub raw_is : at (values_of n (layout (kind_at number))) (place_at number) ≡ raw_in n number
+  raw_is =
       let k = kind_at number in
       let w = signed_word number in
       let l = listed_at number h u in
       let p = placed_at k (place_at number) l.place in
       values_at n (layout k) (place_at number) (rw (layout_long k) l.place)
-      ∙ ap (λ (f : Form). value_as f (2 ^ (w.top - w.low)) (word_of n w.top w.low)) word-signed
-      ∙ signed_in_lem n w.top w.low p.first (p.sign word-signed)
+      ∙ ap (λ (f : Form). value_as f (2 ^ (w.top - w.low)) (word_of n w.top w.low)) word_signed
+      ∙ signed_in_lem n w.top w.low p.first (p.sign word_signed)
 
-  pub raw-held : Holds (width (signed_word number)) (raw_in n number)
-  raw-held =
+  pub raw_held : Holds (width (signed_word number)) (raw_in n number)
+  raw_held =
       let w = signed_word number in
       let l = listed_at number h u in
       let p = placed_at (kind_at number) (place_at number) l.place in
-      let g : w.low ≤ w.top = p.sign word-signed in
+      let g : w.low ≤ w.top = p.sign word_signed in
       let f : 1 ≤ w.low = p.first in
       let e : w.top - 1 + 1 - w.low ≡ w.top + 1 - w.low - 1 = omega arith in
       rw (size_of (eqb (bit_of n w.top) 1) (word_of n (w.top - 1) w.low))

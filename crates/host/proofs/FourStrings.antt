@@ -24,22 +24,22 @@ use Rattle.host.specs.declared.record.FourRead.{FourRead}
 use Rattle.host.specs.Host.{left, four_tests, immediate_tests, record_words, record_floats, float_in, TellsImmediate}
 use Rattle.host.specs.Parts.{TellsValues, TellsFour, words_from, float_from, numbers_from}
 use Rattle.host.proofs.Sequence.{Alike, past_all, stop_at, alike_on, alike_told, told_zero, told_none, read_numbers, left_refused, left_done}
-use Rattle.host.proofs.Floats.{raw-is}
+use Rattle.host.proofs.Floats.{raw_is}
 
 -- ---- one string
 module _ (s : List ℕ) (k : Kind) (r : ReadOut) (a : TellsValues (read_tests s k) (left s) k r) where
-  none-given : r.answer ≡ 0 → first_of (read_tests s k) ≡ 0
-  none-given e = told_zero (first_of (read_tests s k)) (place_of (read_tests s k)) (sym a.answer ∙ e)
+  none_given : r.answer ≡ 0 → first_of (read_tests s k) ≡ 0
+  none_given e = told_zero (first_of (read_tests s k)) (place_of (read_tests s k)) (sym a.answer ∙ e)
 
-  one-given : (r.answer ≡ 0 → ⊥) → first_of (read_tests s k) ≡ 0 → ⊥
-  one-given h z = h (a.answer ∙ sym (told_none (first_of (read_tests s k)) (place_of (read_tests s k)) z))
+  one_given : (r.answer ≡ 0 → ⊥) → first_of (read_tests s k) ≡ 0 → ⊥
+  one_given h z = h (a.answer ∙ sym (told_none (first_of (read_tests s k)) (place_of (read_tests s k)) z))
 
   -- it is read, and those after it answer; or it is refused, and they are not asked
   past : (ts us : List Test) → Alike ts (read_tests s k ++ us) → r.answer ≡ 0 → Alike ts us
-  past ts us p e = alike_on ts (read_tests s k ++ us) us p (past_all (read_tests s k) us (read_numbers s k) (none-given e))
+  past ts us p e = alike_on ts (read_tests s k ++ us) us p (past_all (read_tests s k) us (read_numbers s k) (none_given e))
 
   stop : (ts us : List Test) → Alike ts (read_tests s k ++ us) → (r.answer ≡ 0 → ⊥) → Alike ts (read_tests s k)
-  stop ts us p h = alike_on ts (read_tests s k ++ us) (read_tests s k) p (stop_at (read_tests s k) us (one-given h))
+  stop ts us p h = alike_on ts (read_tests s k ++ us) (read_tests s k) p (stop_at (read_tests s k) us (one_given h))
 
 -- ---- four strings
 module _ (one two three four : List ℕ) (r : FourRead) where
@@ -49,49 +49,49 @@ module _ (one two three four : List ℕ) (r : FourRead) where
   abbrev last : List Test
   last = read_tests four Four
 
-  abbrev last-2 : List Test
-  last-2 = read_tests three Three ++ last
+  abbrev last_2 : List Test
+  last_2 = read_tests three Three ++ last
 
-  abbrev last-3 : List Test
-  last-3 = read_tests two Two ++ last-2
+  abbrev last_3 : List Test
+  last_3 = read_tests two Two ++ last_2
 
-  refused-by : (s : List ℕ) (k : Kind) (x : ReadOut) → TellsValues (read_tests s k) (left s) k x → (x.answer ≡ 0 → ⊥) → Alike all (read_tests s k)
+  refused_by : (s : List ℕ) (k : Kind) (x : ReadOut) → TellsValues (read_tests s k) (left s) k x → (x.answer ≡ 0 → ⊥) → Alike all (read_tests s k)
       → r.answer ≡ x.answer → TellsFour one two three four r
-  refused-by s k x a h p e =
+  refused_by s k x a h p e =
       record {
         answer = e ∙ a.answer ∙ sym (alike_told all (read_tests s k) p);
-        values = λ z. absurd (one-given s k x a h (sym p.0 ∙ z));
+        values = λ z. absurd (one_given s k x a h (sym p.0 ∙ z));
       }
 
   module _ (x : ReadOut) (a : TellsValues (read_tests one One) (left one) One x) where
-    pub four-1 : (x.answer ≡ 0 → ⊥) → r.answer ≡ x.answer → TellsFour one two three four r
-    four-1 h e = refused-by one One x a h (stop one One x a all last-3 (refl, refl) h) e
+    pub four_1 : (x.answer ≡ 0 → ⊥) → r.answer ≡ x.answer → TellsFour one two three four r
+    four_1 h e = refused_by one One x a h (stop one One x a all last_3 (refl, refl) h) e
 
     module _ (i : x.answer ≡ 0) (y : ReadOut) (b : TellsValues (read_tests two Two) (left two) Two y) where
-      after-1 : Alike all last-3
-      after-1 = past one One x a all last-3 (refl, refl) i
+      after-1 : Alike all last_3
+      after-1 = past one One x a all last_3 (refl, refl) i
 
-      pub four-2 : (y.answer ≡ 0 → ⊥) → r.answer ≡ y.answer → TellsFour one two three four r
-      four-2 h e = refused-by two Two y b h (stop two Two y b all last-2 after-1 h) e
+      pub four_2 : (y.answer ≡ 0 → ⊥) → r.answer ≡ y.answer → TellsFour one two three four r
+      four_2 h e = refused_by two Two y b h (stop two Two y b all last_2 after-1 h) e
 
       module _ (j : y.answer ≡ 0) (z : ReadOut) (c : TellsValues (read_tests three Three) (left three) Three z) where
-        after-2 : Alike all last-2
-        after-2 = past two Two y b all last-2 after-1 j
+        after-2 : Alike all last_2
+        after-2 = past two Two y b all last_2 after-1 j
 
-        pub four-3 : (z.answer ≡ 0 → ⊥) → r.answer ≡ z.answer → TellsFour one two three four r
-        four-3 h e = refused-by three Three z c h (stop three Three z c all last after-2 h) e
+        pub four_3 : (z.answer ≡ 0 → ⊥) → r.answer ≡ z.answer → TellsFour one two three four r
+        four_3 h e = refused_by three Three z c h (stop three Three z c all last after-2 h) e
 
-        pub four-4 : z.answer ≡ 0 → (w : ReadOut) → TellsValues (read_tests four Four) (left four) Four w → r.answer ≡ w.answer → r.one ≡ x.values
+        pub four_4 : z.answer ≡ 0 → (w : ReadOut) → TellsValues (read_tests four Four) (left four) Four w → r.answer ≡ w.answer → r.one ≡ x.values
             → r.two ≡ y.values → r.three ≡ z.values → r.four ≡ w.values → TellsFour one two three four r
-        four-4 l w d e f₁ f₂ f₃ f₄ =
+        four_4 l w d e f₁ f₂ f₃ f₄ =
             let p = past three Three z c all last after-2 l in
             record {
               answer = e ∙ d.answer ∙ sym (alike_told all last p);
               values = λ q.
                   record {
-                    first = f₁ ∙ a.values (none-given one One x a i);
-                    second = f₂ ∙ b.values (none-given two Two y b j);
-                    third = f₃ ∙ c.values (none-given three Three z c l);
+                    first = f₁ ∙ a.values (none_given one One x a i);
+                    second = f₂ ∙ b.values (none_given two Two y b j);
+                    third = f₃ ∙ c.values (none_given three Three z c l);
                     fourth = f₄ ∙ d.values (sym p.0 ∙ q);
                   };
             }
@@ -105,7 +105,7 @@ words_are a b c d = refl
 -- the word of a number from the values of its kind
 float_is : (n number : ℕ) (k : Kind) → kind_at number ≡ k → 1 ≤ number → number ≤ 22 → float_from (values_of n (layout k)) number ≡ float_in n number
 float_is n number k e h u =
-    ap (λ (q : Kind). float_from (values_of n (layout q)) number) (sym e) ∙ ap (λ (raw : ℤ). scaled_of raw (unit_at number)) (raw-is n number h u)
+    ap (λ (q : Kind). float_from (values_of n (layout q)) number) (sym e) ∙ ap (λ (raw : ℤ). scaled_of raw (unit_at number)) (raw_is n number h u)
 
 pub three_more : {a b c x y z : Float} {l m : List Float} → a ≡ x → b ≡ y → c ≡ z → l ≡ m → a ∷ b ∷ c ∷ l ≡ x ∷ y ∷ z ∷ m
 three_more e f g h = rw (e, f, g, h)
@@ -165,22 +165,22 @@ module _ (one two three four : List ℕ) (words : List ℤ) (numbers : List Floa
         floats = left_refused tests (record_floats (left one) (left two) (left three) (left four)) numbers (λ z. h (sym p.0 ∙ z));
       }
 
-  pub lengths-refused : lengths ≡ false → TellsImmediate one two three four words numbers 2 words numbers
-  lengths-refused e =
+  pub lengths_refused : lengths ≡ false → TellsImmediate one two three four words numbers 2 words numbers
+  lengths_refused e =
       none_made 2 (test 2 true ∷ []) (not_long (eleven one) (eleven two) (eleven three) (eleven four) (four_tests one two three four) e) (λ z. omega arith) refl
 
   module _ (r : FourRead) (e : lengths ≡ true) (a : TellsFour one two three four r) where
     read_alike : Alike tests (four_tests one two three four)
     read_alike = long (eleven one) (eleven two) (eleven three) (eleven four) (four_tests one two three four) e
 
-    pub record-refused : (r.answer ≡ 0 → ⊥) → TellsImmediate one two three four words numbers r.answer words numbers
-    record-refused h =
+    pub record_refused : (r.answer ≡ 0 → ⊥) → TellsImmediate one two three four words numbers r.answer words numbers
+    record_refused h =
         none_made r.answer (four_tests one two three four) read_alike
         (λ z. h (a.answer ∙ sym (told_none (first_of (four_tests one two three four)) (place_of (four_tests one two three four)) z))) a.answer
 
-    pub record-done : (v : List ℤ) (x : List Float) → r.answer ≡ 0 → v ≡ words_from r.one r.two r.three r.four
+    pub record_done : (v : List ℤ) (x : List Float) → r.answer ≡ 0 → v ≡ words_from r.one r.two r.three r.four
         → x ≡ numbers_from r.one r.two r.three r.four → TellsImmediate one two three four words numbers 0 v x
-    record-done v x h f g =
+    record_done v x h f g =
         let z = told_zero (first_of (four_tests one two three four)) (place_of (four_tests one two three four)) (sym a.answer ∙ h) in
         let y : first_of tests ≡ 0 = read_alike.0 ∙ z in
         let w = a.values z in

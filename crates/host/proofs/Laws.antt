@@ -17,7 +17,7 @@ use Rattle.strings.specs.Numbers.{Test, test, first_of, place_of, said_by, answe
 use Rattle.strings.specs.Calls.{sound_tests, check_tests}
 use Rattle.strings.proofs.Answer.{apart, exactly}
 use Rattle.strings.proofs.Below.{and_left, and_right, both, unfit}
-use Rattle.strings.proofs.Tests.{all_of, first-of}
+use Rattle.strings.proofs.Tests.{all_of, first_of_lem}
 use Rattle.told.specs.Told.{packed}
 use Rattle.scaled.specs.Scaled.{scaled_of}
 use Rattle.scaled.specs.Units.{unit_at}
@@ -26,9 +26,9 @@ use Rattle.scaled.proofs.Listed.{each_exact}
 use Rattle.host.specs.Host.{TellsWord, is_word, word_tests, four_tests, immediate_tests, signed_word, raw_in, float_in, left}
 use Rattle.host.specs.Laws.{GivenBy, GivenOnly, IsExact, MinusZero, AreStrings, Laws}
 use Rattle.host.proofs.Sequence.{is_number, nonzero, alike_told, told_zero, left_done}
-use Rattle.host.proofs.Floats.{raw-held}
+use Rattle.host.proofs.Floats.{raw_held}
 use Rattle.host.proofs.NoWord.{no_word_refuses}
-use Rattle.host.proofs.WordAnswers.{tests-out}
+use Rattle.host.proofs.WordAnswers.{tests_out}
 use Rattle.host.proofs.FourStrings.{not_long}
 
 -- ---- the lowest byte is the number that is given, where every number is below 256
@@ -41,7 +41,7 @@ low_byte (suc k) p told h = omega arith
 
 given_low : (ts : List Test) (told : List ℕ) (r : ℕ) → T (all_of is_byte ts) → r ≡ packed (answer_of ts told) → r % 256 ≡ first_of ts
 given_low ts told r a e =
-    ap (λ (x : ℕ). x % 256) e ∙ low_byte (first_of ts) (place_of ts) told (ltb→lt (first_of ts) 256 (first-of is_byte ts a tt))
+    ap (λ (x : ℕ). x % 256) e ∙ low_byte (first_of ts) (place_of ts) told (ltb→lt (first_of ts) 256 (first_of_lem is_byte ts a tt))
 
 said_first : (n : ℕ) (p told : List ℕ) → get_or (said_by n p told) 0 0 ≡ n
 said_first zero p told = refl
@@ -112,19 +112,19 @@ word_by number true e h =
 word_by number false e h = absurd (h e)
 
 module _ (s : List ℕ) (number : ℕ) (v : Float) (r : ℕ) (x : Float) (a : TellsWord s number v r x) (e : r ≡ 0) where
-  none-given : first_of (word_tests s number) ≡ 0
-  none-given = told_zero (first_of (word_tests s number)) (place_of (word_tests s number)) (sym a.answer ∙ e)
+  none_given : first_of (word_tests s number) ≡ 0
+  none_given = told_zero (first_of (word_tests s number)) (place_of (word_tests s number)) (sym a.answer ∙ e)
 
-  word-is : (1 ≤ number) × (number ≤ 22)
-  word-is = word_by number (is_word number) refl (λ o. no_word_refuses s (sym (tests-out s number o).0 ∙ none-given))
+  word_is : (1 ≤ number) × (number ≤ 22)
+  word_is = word_by number (is_word number) refl (λ o. no_word_refuses s (sym (tests_out s number o).0 ∙ none_given))
 
   made : x ≡ float_in (left s) number
-  made = a.float ∙ sym (left_done (word_tests s number) (float_in (left s) number) v none-given)
+  made = a.float ∙ sym (left_done (word_tests s number) (float_in (left s) number) v none_given)
 
   exact_word : IsExact (left s) number x
   exact_word =
-      let w = word-is in
-      let t = each_exact number (raw_in (left s) number) w.0 w.1 (raw-held (left s) number w.0 w.1) in
+      let w = word_is in
+      let t = each_exact number (raw_in (left s) number) w.0 w.1 (raw_held (left s) number w.0 w.1) in
       record {
         least = w.0;
         most = w.1;

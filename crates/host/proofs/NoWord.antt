@@ -18,8 +18,8 @@ use Rattle.strings.specs.Hamming.{ruling, mended}
 use Rattle.strings.specs.Numbers.{refusal_paper, verdict_paper, Test, test, first_of, place_of, answer_of}
 use Rattle.strings.specs.Calls.{Checks, checked_paper, verdict_told, sound_tests, string_tests}
 use Rattle.strings.proofs.Answer.{taken_made}
-use Rattle.strings.proofs.CheckRule.{check-took}
-use Rattle.strings.proofs.SoundTests.{sound-then}
+use Rattle.strings.proofs.CheckRule.{check_took}
+use Rattle.strings.proofs.SoundTests.{sound_then}
 use Rattle.strings.proofs.Judge.{mended_lt}
 use Rattle.strings.proofs.Shape.{shaped, has_room_lem}
 use Rattle.strings.proofs.Tests.{first_by}
@@ -53,22 +53,22 @@ last_told true = refl
 last_told false = refl
 
 module _ (s out out' : List ℕ) (c : Checked) (room : length out ≡ 11) (a : Checks s out c out') where
-  pub refused-no-word : (q : Refusal) → c ≡ NotTaken q → packed (refusal_paper q) ≡ packed (answer_of (no_word_tests s) [])
+  pub refused_no_word : (q : Refusal) → c ≡ NotTaken q → packed (refusal_paper q) ≡ packed (answer_of (no_word_tests s) [])
   unfolding Checks
-  refused-no-word q e =
+  refused_no_word q e =
       let n = number_of s in
       let p : refusal_paper q ≡ answer_of (string_tests s) (verdict_told (ruling n)) = rw (has_room_lem out room) at (ap checked_paper (sym e) ∙ a.answer) in
       let d = refused_said q (verdict_told (ruling n)) (first_of (string_tests s)) (place_of (string_tests s)) p in
       ap packed d.0 ∙ sym (alike_told (no_word_tests s) (string_tests s) (stop_at (string_tests s) (last_tests (mended n)) d.1))
 
-  pub taken-no-word : (v : Verdict) (m : ℕ) → c ≡ Taken v → Bytes s → m ≡ number_in (number_of out') → last_number (eqb m 0) ≡ packed (answer_of (no_word_tests s) [])
+  pub taken_no_word : (v : Verdict) (m : ℕ) → c ≡ Taken v → Bytes s → m ≡ number_in (number_of out') → last_number (eqb m 0) ≡ packed (answer_of (no_word_tests s) [])
   unfolding Checks
-  taken-no-word v m e b h =
+  taken_no_word v m e b h =
       let n = number_of s in
       let a' = subst (λ (x : Checked). Checks s out x out') e a in
-      let t = check-took s out v out' a' in
+      let t = check_took s out v out' a' in
       let f = ap number_of (taken_made (verdict_paper v) a') ∙ string_number_lem (mended n) (mended_lt n (number_lt s b (shaped s t.0).0)) in
-      let w = sound-then n t.1 (last_tests (mended n)) in
+      let w = sound_then n t.1 (last_tests (mended n)) in
       ap (λ (j : ℕ). last_number (eqb j 0)) (h ∙ ap number_in f)
       ∙ sym (last_told (eqb (number_in (mended n)) 0))
       ∙ sym (rw t.0 (alike_told (sound_tests n ++ last_tests (mended n)) (last_tests (mended n)) w))

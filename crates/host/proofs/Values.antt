@@ -38,17 +38,17 @@ refused_said q told zero p e = absurd (not_taken q told e)
 refused_said q told (suc k) p e = (e, (λ z. omega arith))
 
 module _ (s : List ℕ) (k : Kind) (x : Reading) (r : ReadOut) (a : Reads s k x) where
-  pub kind-refused : (q : Refusal) → x ≡ Refused q → r.answer ≡ packed (refusal_paper q) → TellsValues (read_tests s k) (mended (number_of s)) k r
+  pub kind_refused : (q : Refusal) → x ≡ Refused q → r.answer ≡ packed (refusal_paper q) → TellsValues (read_tests s k) (mended (number_of s)) k r
   unfolding Reads
-  kind-refused q e p =
+  kind_refused q e p =
       let n = mended (number_of s) in
       let b = subst (ReadsBy (read_tests s k) n k) e a in
       let d = refused_said q (number_in n ∷ kind_number k ∷ []) (first_of (read_tests s k)) (place_of (read_tests s k)) b.answer in
       record { answer = p ∙ ap packed d.0; values = λ z. absurd (d.1 z) }
 
-  pub kind-read : (m : ℕ) (rec : Record) → x ≡ Read m rec → r.answer ≡ 0 → r.values ≡ list_of rec → TellsValues (read_tests s k) (mended (number_of s)) k r
+  pub kind_read : (m : ℕ) (rec : Record) → x ≡ Read m rec → r.answer ≡ 0 → r.values ≡ list_of rec → TellsValues (read_tests s k) (mended (number_of s)) k r
   unfolding Reads reading_words
-  kind-read m rec e p v =
+  kind_read m rec e p v =
       let n = mended (number_of s) in
       let b = subst (ReadsBy (read_tests s k) n k) e a in
       let z = first_given (read_tests s k) (number_in n ∷ kind_number k ∷ []) b.answer in

@@ -22,7 +22,7 @@ use Rattle.host.specs.declared.reading.ReadOut.{ReadOut}
 use Rattle.host.specs.Host.{is_word, word_tests, no_word_tests, float_in, TellsWord, left}
 use Rattle.host.specs.Parts.{TellsValues, float_from}
 use Rattle.host.proofs.Sequence.{Alike, alike_told, told_zero, told_none, left_refused, left_done}
-use Rattle.host.proofs.Floats.{raw-is}
+use Rattle.host.proofs.Floats.{raw_is}
 use Rattle.host.proofs.NoWord.{no_word_refuses}
 
 -- ---- which numbers are words
@@ -55,18 +55,18 @@ module _ (s : List ℕ) (number : ℕ) where
       string_tests s
       ++ (test 5 (eqb (number_in (left s)) 0) ∷ test 11 b ∷ range_test (values_of (left s) (layout (kind_at number))) (kind_at number) ∷ [])
 
-  pub tests-in : is_word number ≡ true → word_tests s number ≡ read_tests s (kind_at number)
-  tests-in e = ap placed (not_and (is_word number) (of_kind (kind_at number) (number_in (left s))) e)
+  pub tests_in_lem : is_word number ≡ true → word_tests s number ≡ read_tests s (kind_at number)
+  tests_in_lem e = ap placed (not_and (is_word number) (of_kind (kind_at number) (number_in (left s))) e)
 
-  pub tests-out : is_word number ≡ false → Alike (word_tests s number) (no_word_tests s)
+  pub tests_out : is_word number ≡ false → Alike (word_tests s number) (no_word_tests s)
   unfolding sound_tests
-  tests-out e =
+  tests_out e =
       let p = ap placed (nor (is_word number) (of_kind (kind_at number) (number_in (left s))) e) in
       (ap first_of p, ap place_of p)
 
   pub word_none : (v : Float) (r : ℕ) → is_word number ≡ false → r ≡ packed (answer_of (no_word_tests s) []) → TellsWord s number v r v
   word_none v r o e =
-      let t = tests-out o in
+      let t = tests_out o in
       record {
         answer = e ∙ sym (alike_told (word_tests s number) (no_word_tests s) t);
         float = left_refused (word_tests s number) (float_in (left s) number) v (λ z. no_word_refuses s (sym t.0 ∙ z));
@@ -74,25 +74,25 @@ module _ (s : List ℕ) (number : ℕ) where
 
   module _ (r : ReadOut) (w : is_word number ≡ true) (a : TellsValues (read_tests s (kind_at number)) (left s) (kind_at number) r) where
     told_in : r.answer ≡ packed (answer_of (word_tests s number) [])
-    told_in = a.answer ∙ ap (λ (ts : List Test). packed (answer_of ts [])) (sym (tests-in w))
+    told_in = a.answer ∙ ap (λ (ts : List Test). packed (answer_of ts [])) (sym (tests_in_lem w))
 
-    pub word-refused : (v : Float) → (r.answer ≡ 0 → ⊥) → TellsWord s number v r.answer v
-    word-refused v h =
+    pub word_refused : (v : Float) → (r.answer ≡ 0 → ⊥) → TellsWord s number v r.answer v
+    word_refused v h =
         record {
           answer = told_in;
           float = left_refused (word_tests s number) (float_in (left s) number) v (λ z. h (told_in ∙ sym (told_none (first_of (word_tests s number)) (place_of (word_tests s number)) z)));
         }
 
-    pub word-done : (v x : Float) → 1 ≤ number → number ≤ 22 → r.answer ≡ 0 → x ≡ float_from r.values number → TellsWord s number v 0 x
-    word-done v x h u e f =
+    pub word_done : (v x : Float) → 1 ≤ number → number ≤ 22 → r.answer ≡ 0 → x ≡ float_from r.values number → TellsWord s number v 0 x
+    word_done v x h u e f =
         let ts = word_tests s number in
         let z = told_zero (first_of ts) (place_of ts) (sym told_in ∙ e) in
-        let y : first_of (read_tests s (kind_at number)) ≡ 0 = ap first_of (sym (tests-in w)) ∙ z in
+        let y : first_of (read_tests s (kind_at number)) ≡ 0 = ap first_of (sym (tests_in_lem w)) ∙ z in
         record {
           answer = sym e ∙ told_in;
           float =
               f
               ∙ ap (λ (l : List ℤ). float_from l number) (a.values y)
-              ∙ ap (λ (raw : ℤ). scaled_of raw (unit_at number)) (raw-is (left s) number h u)
+              ∙ ap (λ (raw : ℤ). scaled_of raw (unit_at number)) (raw_is (left s) number h u)
               ∙ left_done ts (float_in (left s) number) v z;
         }

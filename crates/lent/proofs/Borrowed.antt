@@ -36,36 +36,36 @@ module _ {M : Type 1} (𝓤 : Ura M) where
 
 module _ {M : Type 1} {𝓤 : Ura M} {𝓛 : Logic 𝓤} {K : Type 0} {Γ : List (Item 𝓤)} {G : Goal 𝓤 𝓛.H} where
   -- [obs; the borrow; its token; …] becomes [the cell; the open borrow; obs; auth; …]
-  pub opens-station : K → Soaks G → {κ : Lft} {q : Share} {γ : GName} (h : Station) (b o : ℕ)
+  pub opens_station : K → Soaks G → {κ : Lft} {q : Share} {γ : GName} (h : Station) (b o : ℕ)
       → (Whole h → Seq K 𝓛 (‵ (fat full_share ST'.mir b o (ST'.lowered h)) ∷ ‵ (fobor κ q (Body (mem ST.the_row) b o γ)) ∷ ‵ (fobs γ ((ST.the_row).coded.code h)) ∷ ‵ (fauth γ ((ST.the_row).coded.code h)) ∷ Γ) G)
       → Seq K 𝓛 (‵ (fobs γ ((ST.the_row).coded.code h)) ∷ ‵ (fbor κ (Body (mem ST.the_row) b o γ)) ∷ ‵ (flft κ q) ∷ Γ) G
-  opens-station t z h b o k =
+  opens_station t z h b o k =
       opens t z ST.the_row {h = h} b o (λ vs. spelt t ST.the_row (Is ST.the_row) (shows 𝓛 ST.the_row) (λ d. ST'.lowered d ∷ []) (ST'.lowers).val_is full_share h vs b o $
       move t (1 ∷ []) $ facts t ST.the_row (Is ST.the_row) (shows 𝓛 ST.the_row) h (ST'.lowered h ∷ []) (λ ih.
       use1 𝓛 (‵ (fat full_share ST'.mir b o (ST'.lowered h))) (𝓛.laws.raw_at full_share ST'.mir b o (ST'.lowered h)) $ k ih))
 
   -- and back, at the station st, whose machine value is v
-  pub closes-station : K → Soaks G → {κ : Lft} {q : Share} {γ : GName} {u u' : Gv} (st : Station) (v : Val) (b o : ℕ) → Is ST.the_row st (v ∷ [])
+  pub closes_station : K → Soaks G → {κ : Lft} {q : Share} {γ : GName} {u u' : Gv} (st : Station) (v : Val) (b o : ℕ) → Is ST.the_row st (v ∷ [])
       → Step K 𝓛 (‵ (fobs γ ((ST.the_row).coded.code st)) ∷ ‵ (fbor κ (Body (mem ST.the_row) b o γ)) ∷ ‵ (flft κ q) ∷ Γ) G
       (‵ (fat full_share ST'.mir b o v) ∷ ‵ (fobor κ q (Body (mem ST.the_row) b o γ)) ∷ ‵ (fobs γ u) ∷ ‵ (fauth γ u') ∷ Γ) G
-  closes-station t z st v b o p = step (λ s.
+  closes_station t z st v b o p = step (λ s.
       use1 𝓛 (‵ (cell_at full_share (ST.the_row).mir (v ∷ []) b o)) (𝓛.laws.at_raw full_share ST'.mir b o v) $
       owned t ST.the_row (Is ST.the_row) (LL.makes ST.the_type ST'.the_plain 𝓛) st (v ∷ []) p $ move t (1 ∷ 0 ∷ []) $ closes t z ST.the_row st (v ∷ []) b o $ s)
 
   -- [what a `&Station` owns; its token; …] becomes [a share of the cell; the open borrow of it; …]; what is owned, which a second look would ask for, is let go
-  pub looks-station : K → Soaks G → {κ : Lft} {q : Share} (h : Station) (b o : ℕ) (γ : GName)
+  pub looks_station : K → Soaks G → {κ : Lft} {q : Share} (h : Station) (b o : ℕ) (γ : GName)
       → ((q' : Share) → Whole h → Seq K 𝓛 (‵ (fat q' ST'.mir b o (ST'.lowered h)) ∷ ‵ (fobor κ q (part_at ST.the_row q' h b o)) ∷ Γ) G)
       → Seq K 𝓛 (lent_at 𝓤 κ b o γ h ∷ ‵ (flft κ q) ∷ Γ) G
-  looks-station t z h b o γ k =
+  looks_station t z h b o γ k =
       fsplit3 t $ drop t $ drop t $
       looks t z ST.the_row (Is ST.the_row) (shows 𝓛 ST.the_row) (λ d. ST'.lowered d ∷ []) (ST'.lowers).val_is (LL.copy ST.the_type ST'.the_copy 𝓛) h b o (λ q' vs.
       spelt t ST.the_row (Is ST.the_row) (shows 𝓛 ST.the_row) (λ d. ST'.lowered d ∷ []) (ST'.lowers).val_is q' h vs b o $
       move t (1 ∷ []) $ facts t ST.the_row (Is ST.the_row) (shows 𝓛 ST.the_row) h (ST'.lowered h ∷ []) (λ ih.
       use1 𝓛 (‵ (fat q' ST'.mir b o (ST'.lowered h))) (𝓛.laws.raw_at q' ST'.mir b o (ST'.lowered h)) $ move t (2 ∷ []) $ drop t $ k q' ih))
 
-  pub shuts-station : K → Soaks G → {κ : Lft} {q : Share} (q' : Share) (h : Station) (b o : ℕ) → Whole h
+  pub shuts_station : K → Soaks G → {κ : Lft} {q : Share} (q' : Share) (h : Station) (b o : ℕ) → Whole h
       → Step K 𝓛 (‵ (flft κ q) ∷ Γ) G (‵ (fat q' ST'.mir b o (ST'.lowered h)) ∷ ‵ (fobor κ q (part_at ST.the_row q' h b o)) ∷ Γ) G
-  shuts-station t z q' h b o ih = step (λ s.
+  shuts_station t z q' h b o ih = step (λ s.
       use1 𝓛 (‵ (cell_at q' (ST.the_row).mir (ST'.lowered h ∷ []) b o)) (𝓛.laws.at_raw q' ST'.mir b o (ST'.lowered h)) $
       owned t ST.the_row (Is ST.the_row) (LL.makes ST.the_type ST'.the_plain 𝓛) h (ST'.lowered h ∷ []) ih $ move t (1 ∷ 0 ∷ []) $ shuts t z ST.the_row q' h (ST'.lowered h ∷ []) b o $ s)
 

@@ -1,6 +1,6 @@
 -- The gate as a call on a lent station asks it: its number, which a walk tests for 0, and what that says either way. Of a call that is let in: its row is one of
 -- the rows (served), and its number and the place of the row's bytes fit in 64 bits (wide, in_bytes).
--- Assumes nothing; `goes-gate` assumes `Logic`.
+-- Assumes nothing; `goes_gate` assumes `Logic`.
 use mathlib.Core.Path.{◌≡◌, refl, sym, ◌∙◌}
 use mathlib.Core.Bool.{true, false, not}
 use mathlib.Core.List.{[], ◌∷◌}
@@ -32,8 +32,8 @@ module _ (card c r : ℕ) (er : r ≡ first_of (gate_tests card c)) where
   pub shut_out : T (ltb 0 r) → (is_served card c ≡ false) × (shut_says card c ≡ r ∷ [])
   shut_out t = number_said_lem card c r er (ltb→lt 0 r t)
 
-  pub let-in : T (not (ltb 0 r)) → is_served card c ≡ true
-  let-in n = let z : r ≡ 0 = omega (arith, nltb→le 0 r n) in zero_served card c (sym er ∙ z)
+  pub let_in_lem : T (not (ltb 0 r)) → is_served card c ≡ true
+  let_in_lem n = let z : r ≡ 0 = omega (arith, nltb→le 0 r n) in zero_served card c (sym er ∙ z)
 
 pub served : (card c : ℕ) → is_served card c ≡ true → c < channels
 served card c n = served_below card c n
@@ -49,10 +49,10 @@ module _ {M : Type 1} {𝓤 : Ura M} (𝓛 : Logic 𝓤) (mem : Memory → SProp
   abbrev pub GateNumber : Contract 𝓤
   GateNumber = triple_of 𝓛 gate'.signature (gate'.spec 𝓛 mem run)
 
-  abbrev pub to-gate : ℕ → ℕ → GateNumber.Ghost
-  to-gate card c = ((tt, tt, tt, (card, (c, tt)), (vint w8 card ∷ [], (vint w8 c ∷ [], tt))), tt)
+  abbrev pub to_gate : ℕ → ℕ → GateNumber.Ghost
+  to_gate card c = ((tt, tt, tt, (card, (c, tt)), (vint w8 card ∷ [], (vint w8 c ∷ [], tt))), tt)
 
-  pub goes-gate : (card c : ℕ) → card < 2 ^ 8 → c < 2 ^ 8 → ent 𝓤 (emp 𝓤) (GateNumber.pre (to-gate card c))
-  goes-gate card c gk gc =
+  pub goes_gate : (card c : ℕ) → card < 2 ^ 8 → c < 2 ^ 8 → ent 𝓤 (emp 𝓤) (GateNumber.pre (to_gate card c))
+  goes_gate card c gk gc =
       qed 𝓛 [] ∵ nothing ! $ owned ! u8 (Is u8) (uint_Makes 𝓛 w8) c _ (refl, gc) $ fjoin ! $ owned ! u8 (Is u8) (uint_Makes 𝓛 w8) card _ (refl, gk) $
       fjoin ! $ nothing ! $ join ! $ frame ! $ done !

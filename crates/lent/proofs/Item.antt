@@ -1,5 +1,5 @@
 -- An element of an array's cell, beside `types.Part`'s `sub`, for a walk by hand: `item us k d l e p` is element k of the array that p finds. It is read by `look_in` and written by `store_in`, at an index that is not known.
--- `low-item` is the same for values of a declared struct at their lowered machine values, with what each is (`low-is`) and its typing (`low-typed`). `lowly`: a declared type's relation, at the lowered machine value.
+-- `low_item` is the same for values of a declared struct at their lowered machine values, with what each is (`low_is`) and its typing (`low_typed`). `lowly`: a declared type's relation, at the lowered machine value.
 -- Assumes `Logic` (of it `at_elems`, `elems_at`).
 use mathlib.Core.Path.{◌≡◌, refl, sym, ◌∙◌, ap, subst}
 use Prim.Native.Nat.{ℕ, zero, suc, ◌+◌, ◌<◌}
@@ -86,27 +86,27 @@ module _ (D : Declared) (lw : LL.Lowered D) where
   abbrev pub Lows : List D.D → Type 0
   Lows xs = Each xs (map lw.lowered xs)
 
-  lows-of : (xs : List D.D) (us : List Val) → Each xs us → Lows xs
-  lows-of [] [] s = s
-  lows-of [] (u ∷ us) s = absurd s
-  lows-of (x ∷ xs) [] s = absurd s
-  lows-of (x ∷ xs) (u ∷ us) s = (lowly D lw x (u ∷ []) s.0, lows-of xs us s.1)
+  lows_of : (xs : List D.D) (us : List Val) → Each xs us → Lows xs
+  lows_of [] [] s = s
+  lows_of [] (u ∷ us) s = absurd s
+  lows_of (x ∷ xs) [] s = absurd s
+  lows_of (x ∷ xs) (u ∷ us) s = (lowly D lw x (u ∷ []) s.0, lows_of xs us s.1)
 
-  pub lows-at : (xs : List D.D) (k : ℕ) (d : D.D) → k < length xs → Lows xs → Is (row D) (get_or xs k d) (lw.lowered (get_or xs k d) ∷ [])
-  lows-at [] k d l s = absurd (not-suc-le-zero l)
-  lows-at (x ∷ xs) zero d l s = s.0
-  lows-at (x ∷ xs) (suc k) d l s = lows-at xs k d (le_of_suc-le-suc l) s.1
+  pub lows_at : (xs : List D.D) (k : ℕ) (d : D.D) → k < length xs → Lows xs → Is (row D) (get_or xs k d) (lw.lowered (get_or xs k d) ∷ [])
+  lows_at [] k d l s = absurd (not-suc-le-zero l)
+  lows_at (x ∷ xs) zero d l s = s.0
+  lows_at (x ∷ xs) (suc k) d l s = lows_at xs k d (le_of_suc-le-suc l) s.1
 
-  pub lows-set : (xs : List D.D) (k : ℕ) (y : D.D) → Is (row D) y (lw.lowered y ∷ []) → Lows xs → Lows (set xs k y)
-  lows-set [] k y p s = s
-  lows-set (x ∷ xs) zero y p s = (p, s.1)
-  lows-set (x ∷ xs) (suc k) y p s = (s.0, lows-set xs k y p s.1)
+  pub lows_set : (xs : List D.D) (k : ℕ) (y : D.D) → Is (row D) y (lw.lowered y ∷ []) → Lows xs → Lows (set xs k y)
+  lows_set [] k y p s = s
+  lows_set (x ∷ xs) zero y p s = (p, s.1)
+  lows_set (x ∷ xs) (suc k) y p s = (s.0, lows_set xs k y p s.1)
 
   pub in_field : (n : ℕ) (xs : List D.D) → length xs ≡ n → Lows xs → Is (Array (field D).row n) (map (field D).into xs) (array_val (map lw.lowered xs) ∷ [])
   in_field n xs e s = (map lw.lowered xs, ((refl, length-map xs (field D).into ∙ e), field_in (field D) xs (map lw.lowered xs) s))
 
-  pub out-field : (n : ℕ) (xs : List D.D) (vs : List Val) → Is (Array (field D).row n) (map (field D).into xs) vs → (length xs ≡ n) × Lows xs
-  out-field n xs vs p = (sym (length-map xs (field D).into) ∙ p.1.0.1, lows-of xs p.0 (field_out (field D) xs p.0 p.1.1))
+  pub out_field : (n : ℕ) (xs : List D.D) (vs : List Val) → Is (Array (field D).row n) (map (field D).into xs) vs → (length xs ≡ n) × Lows xs
+  out_field n xs vs p = (sym (length-map xs (field D).into) ∙ p.1.0.1, lows_of xs p.0 (field_out (field D) xs p.0 p.1.1))
 
 module _ {M : Type 1} {𝓤 : Ura M} {𝓛 : Logic 𝓤} {K : Type 0} {Γ : List (Item 𝓤)} {E : Env 𝓤 𝓛.H} {C : Calls 𝓤 𝓛.H} {Λ : Loops 𝓤 𝓛.H} {q : Post 𝓤 𝓛.H} where
   -- a test, with an arm that returns and nothing in the other
@@ -126,13 +126,13 @@ module _ {M : Type 1} {𝓤 : Ura M} (𝓛 : Logic 𝓤) (q : Share) (τ : Ty) (
   abbrev Back : ℕ → List Val → ℕ → Val → SProp 𝓤
   Back o us k u = wand 𝓤 (H.at q τ b (place (size τ) o k) u) (Row o (set us k u))
 
-  elem-way : (us : List Val) (k : ℕ) (d : Val) (o : ℕ) → k < length us → ent 𝓤 (Row o us) (sep 𝓤 (H.at q τ b (place (size τ) o k) (get_or us k d)) (all 𝓤 (Back o us k)))
-  elem-way [] k d o l = absurd (not-suc-le-zero l)
-  elem-way (x ∷ us) zero d o l =
+  elem_way : (us : List Val) (k : ℕ) (d : Val) (o : ℕ) → k < length us → ent 𝓤 (Row o us) (sep 𝓤 (H.at q τ b (place (size τ) o k) (get_or us k d)) (all 𝓤 (Back o us k)))
+  elem_way [] k d o l = absurd (not-suc-le-zero l)
+  elem_way (x ∷ us) zero d o l =
       qed 𝓛 (‵ (fat q τ b o x) ∷ raw (Row (o + size τ) us) ∷ []) ∵ frame ! $ each ! (Back o (x ∷ us) zero) (λ u. assume {P = Row o (u ∷ us)} ! (‵ (fat q τ b o u)) $ done !)
-  elem-way (x ∷ us) (suc k) d o l =
+  elem_way (x ∷ us) (suc k) d o l =
       qed 𝓛 (‵ (fat q τ b o x) ∷ raw (Row (o + size τ) us) ∷ []) ∵ move ! (1 ∷ []) $
-      use1 𝓛 (‵ (fat q τ b (place (size τ) (o + size τ) k) (get_or us k d)) ⊛ raw (all 𝓤 (Back (o + size τ) us k))) (elem-way us k d (o + size τ) (le_of_suc-le-suc l)) $ split ! $ frame ! $
+      use1 𝓛 (‵ (fat q τ b (place (size τ) (o + size τ) k) (get_or us k d)) ⊛ raw (all 𝓤 (Back (o + size τ) us k))) (elem_way us k d (o + size τ) (le_of_suc-le-suc l)) $ split ! $ frame ! $
       each ! (Back o (x ∷ us) (suc k)) (λ u. assume {P = Row o (x ∷ set us k u)} ! (‵ (fat q τ b (place (size τ) (o + size τ) k) u)) $
       -- [the cell with u; the way back; x's cell]
       move ! (1 ∷ []) $ use1 𝓛 (raw (Back (o + size τ) us k u)) (all_e 𝓤 (Back (o + size τ) us k) u) $ move ! (1 ∷ 0 ∷ []) $
@@ -149,7 +149,7 @@ module _ {M : Type 1} {𝓤 : Ura M} {𝓛 : Logic 𝓤} {K : Type 0} where
   item t {i} {q} {τ} {n} {b} {o} {back} us k d l e p = record {
     out = qed 𝓛 (i ∷ []) ∵ use1 𝓛 (‵ (fat q (ty_array τ n) b o (array_val us)) ⊛ raw (all 𝓤 Entry)) p.out $ split ! $
         use1 𝓛 (raw (elems 𝓤 H q τ b o us)) (𝓛.laws.at_elems q τ n b o us) $
-        use1 𝓛 (‵ (fat q τ b (place (size τ) o k) (get_or us k d)) ⊛ raw (all 𝓤 (Back 𝓛 q τ b o us k))) (elem-way 𝓛 q τ b us k d o l) $ split ! $ frame ! $
+        use1 𝓛 (‵ (fat q τ b (place (size τ) o k) (get_or us k d)) ⊛ raw (all 𝓤 (Back 𝓛 q τ b o us k))) (elem_way 𝓛 q τ b us k d o l) $ split ! $ frame ! $
         each ! (λ (u : Val). wand 𝓤 (H.at q τ b (place (size τ) o k) u) (mean 𝓛 (back (array_val (set us k u))))) (λ u. assume {P = mean 𝓛 (back (array_val (set us k u)))} ! (‵ (fat q τ b (place (size τ) o k) u)) $
         -- [the element's cell with u; the way back to the row; the way back to the entry]
         move ! (1 ∷ []) $ use1 𝓛 (raw (Back 𝓛 q τ b o us k u)) (all_e 𝓤 (Back 𝓛 q τ b o us k) u) $ move ! (1 ∷ 0 ∷ []) $
@@ -171,15 +171,15 @@ module _ (D : Declared) (lw : LL.Lowered D) (n : ℕ) (xs : List D.D) (p : (leng
   inside : k < length (map lw.lowered xs)
   inside = subst (λ (m : ℕ). k < m) (sym long) l
 
-  pub low-is : Is (row D) (get_or xs k d) (lw.lowered (get_or xs k d) ∷ [])
-  low-is = lows-at D lw xs k d (subst (λ (m : ℕ). k < m) (sym p.0) l) p.1
+  pub low_is : Is (row D) (get_or xs k d) (lw.lowered (get_or xs k d) ∷ [])
+  low_is = lows_at D lw xs k d (subst (λ (m : ℕ). k < m) (sym p.0) l) p.1
 
-  pub low-typed : (τ : Ty) → ((x : D.D) → Is (row D) x (lw.lowered x ∷ []) → Holds (has_ty τ (lw.lowered x)) × WT (lw.lowered x))
+  pub low_typed : (τ : Ty) → ((x : D.D) → Is (row D) x (lw.lowered x ∷ []) → Holds (has_ty τ (lw.lowered x)) × WT (lw.lowered x))
       → Holds (has_ty τ (get_or (map lw.lowered xs) k (lw.lowered d))) × WT (get_or (map lw.lowered xs) k (lw.lowered d))
-  low-typed τ typed = subst (λ (w : Val). Holds (has_ty τ w) × WT w) (sym (get_or-map lw.lowered xs k d)) (typed (get_or xs k d) low-is)
+  low_typed τ typed = subst (λ (w : Val). Holds (has_ty τ w) × WT w) (sym (get_or-map lw.lowered xs k d)) (typed (get_or xs k d) low_is)
 
 module _ {M : Type 1} {𝓤 : Ura M} {𝓛 : Logic 𝓤} {K : Type 0} where
-  pub low-item : K → {i : Item 𝓤} {q : Share} {τ : Ty} {n b o : ℕ} {back : Val → Item 𝓤} (D : Declared) (lw : LL.Lowered D) (xs : List D.D) (p : (length xs ≡ n) × Lows D lw xs) (k : ℕ) (l : k < n) (d : D.D)
+  pub low_item : K → {i : Item 𝓤} {q : Share} {τ : Ty} {n b o : ℕ} {back : Val → Item 𝓤} (D : Declared) (lw : LL.Lowered D) (xs : List D.D) (p : (length xs ≡ n) × Lows D lw xs) (k : ℕ) (l : k < n) (d : D.D)
       → Part K 𝓛 i q (ty_array τ n) b o (array_val (map lw.lowered xs)) back
       → Part K 𝓛 i q τ b (place (size τ) o k) (get_or (map lw.lowered xs) k (lw.lowered d)) (λ u. back (array_val (set (map lw.lowered xs) k u)))
-  low-item t {n = n} D lw xs p k l d part = item t (map lw.lowered xs) k (lw.lowered d) (inside D lw n xs p k l d) (long D lw n xs p k l d) part
+  low_item t {n = n} D lw xs p k l d part = item t (map lw.lowered xs) k (lw.lowered d) (inside D lw n xs p k l d) (long D lw n xs p k l d) part

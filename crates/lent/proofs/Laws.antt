@@ -23,7 +23,7 @@ use Rattle.relative.specs.Polarity.{first_symbol}
 use Rattle.strings.specs.Numbers.{refusal_paper, Test, test, first_of, place_of, said_by, answer_of}
 use Rattle.strings.specs.Calls.{sound_tests}
 use Rattle.strings.proofs.Judge.{names_bit}
-use Rattle.strings.proofs.Tests.{first-of, no_place}
+use Rattle.strings.proofs.Tests.{first_of_lem, no_place}
 use Rattle.words.specs.Calls.{number_in}
 use Rattle.channel.specs.declared.News.{News}
 use Rattle.channel.specs.declared.News.TheVariants.{AlreadyHeld, Kept, RecordBuilt, RecordOutOfRange}
@@ -102,25 +102,25 @@ module _ (st : Station) (card c epoch : ℕ) (s : List ℕ) where
 
   small : first_of tests < 256
   unfolding sound_tests
-  small = ltb→lt (first_of tests) 256 (first-of (λ k. ltb k 256) tests tt tt)
+  small = ltb→lt (first_of tests) 256 (first_of_lem (λ k. ltb k 256) tests tt tt)
 
-  placed-nowhere : place_of tests ≡ []
+  placed_nowhere : place_of tests ≡ []
   unfolding sound_tests
-  placed-nowhere = no_place tests tt
+  placed_nowhere = no_place tests tt
 
-  told-is-bytes : AreBytes (0 ∷ told_in st c epoch s)
-  told-is-bytes =
+  told_is_bytes : AreBytes (0 ∷ told_in st c epoch s)
+  told_is_bytes =
       let n = whole_of s in
       taken_bytes (number_in n) (verdict_of (ruling (plain_of s))) (news_of (held_at st c) epoch n) (number_of s) (number_small n) (names_one (plain_of s))
 
   answer_bytes : AreBytes (answer_of tests (told_in st c epoch s))
-  answer_bytes = said_bytes (first_of tests) (place_of tests) (told_in st c epoch s) small placed-nowhere told-is-bytes
+  answer_bytes = said_bytes (first_of tests) (place_of tests) (told_in st c epoch s) small placed_nowhere told_is_bytes
 
-  answer-small : packed (answer_of tests (told_in st c epoch s)) < 2 ^ 48
-  answer-small =
+  answer_small : packed (answer_of tests (told_in st c epoch s)) < 2 ^ 48
+  answer_small =
       let n = whole_of s in
-      said_small (first_of tests) (place_of tests) (told_in st c epoch s) small placed-nowhere
-      (taken_small (number_in n) (verdict_of (ruling (plain_of s))) (news_of (held_at st c) epoch n) (number_of s) told-is-bytes)
+      said_small (first_of tests) (place_of tests) (told_in st c epoch s) small placed_nowhere
+      (taken_small (number_in n) (verdict_of (ruling (plain_of s))) (news_of (held_at st c) epoch n) (number_of s) told_is_bytes)
 
 -- ---- the offer that a lent one is
 module _ (st : Station) (card c epoch : ℕ) (s : List ℕ) where
@@ -131,8 +131,8 @@ module _ (st : Station) (card c epoch : ℕ) (s : List ℕ) where
   offered = offer_answers st card c epoch s
 
   module _ (st' : Station) (r : ℕ) where
-    to-offer : OffersLent st card c epoch s st' r → AsOffered st card c epoch s st' r
-    to-offer o = record { step = step; offers = offered; answer = o.answer ∙ ap packed (sym offered.answer); station = o.station }
+    to_offer : OffersLent st card c epoch s st' r → AsOffered st card c epoch s st' r
+    to_offer o = record { step = step; offers = offered; answer = o.answer ∙ ap packed (sym offered.answer); station = o.station }
 
     from-offer : AsOffered st card c epoch s st' r → OffersLent st card c epoch s st' r
     from-offer o = record { answer = o.answer ∙ ap packed o.offers.answer; station = o.station ∙ o.offers.station }
@@ -141,7 +141,7 @@ module _ (st : Station) (card c epoch : ℕ) (s : List ℕ) where
     runs_on cs run o = subst (Runs (Offer card c epoch s ∷ cs)) (sym o.station) (offering card c epoch s cs st step run offered)
 
     six-hold : OffersLent st card c epoch s st' r → r < 2 ^ 48
-    six-hold o = subst (λ (k : ℕ). k < 2 ^ 48) (sym o.answer) (answer-small st card c epoch s)
+    six-hold o = subst (λ (k : ℕ). k < 2 ^ 48) (sym o.answer) (answer_small st card c epoch s)
 
   bytes : (r : Stepped) → OffersTo st card c epoch s r → AreBytes (answer_paper r.answer)
   bytes r o = subst AreBytes (sym o.answer) (answer_bytes st card c epoch s)
@@ -219,21 +219,21 @@ apart a b h k e =
 
 -- ---- the number tells the answer
 module _ {a : Answer} {n : ℕ} (t : ToldAs a n) where
-  told-bytes : AreBytes (answer_paper a)
-  told-bytes = subst (λ (x : Answer). AreBytes (answer_paper x)) t.answer (bytes t.before t.card t.channel t.epoch t.bytes t.step t.offers)
+  told_bytes : AreBytes (answer_paper a)
+  told_bytes = subst (λ (x : Answer). AreBytes (answer_paper x)) t.answer (bytes t.before t.card t.channel t.epoch t.bytes t.step t.offers)
 
-  told-number : n ≡ packed (answer_paper a)
-  told-number = t.lent.answer ∙ ap packed (sym t.offers.answer) ∙ ap (λ (x : Answer). packed (answer_paper x)) t.answer
+  told_number : n ≡ packed (answer_paper a)
+  told_number = t.lent.answer ∙ ap packed (sym t.offers.answer) ∙ ap (λ (x : Answer). packed (answer_paper x)) t.answer
 
 -- ALL OF THEM
 pub laws : Laws
 laws =
     record {
-      as_offered = λ st card c epoch s st' r. (to-offer st card c epoch s st' r, from-offer st card c epoch s st' r);
+      as_offered = λ st card c epoch s st' r. (to_offer st card c epoch s st' r, from-offer st card c epoch s st' r);
       runs = λ cs st card c epoch s st' r. runs_on st card c epoch s st' r cs;
       as_reset = λ st card c st' r. (to-reset st card c st' r, from-reset st card c st' r);
       runs_reset = λ cs st card c st' r. resets_on st card c st' r cs;
-      told_once = λ a b n t u. apart a b (told-bytes t) (told-bytes u) (sym (told-number t) ∙ told-number u);
+      told_once = λ a b n t u. apart a b (told_bytes t) (told_bytes u) (sym (told_number t) ∙ told_number u);
       in_bytes_lem = bytes;
       told_apart = apart;
       six_bytes = six-hold;

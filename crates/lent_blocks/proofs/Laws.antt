@@ -64,13 +64,13 @@ read_one (Refused Cut at) rs = refl
 
 -- ---- by value
 module _ {st : Station} {card : ℕ} {block : List ℕ} {at : ℕ} {st' : Station} {r : ℕ} where
-  to-taken : TakesLent st card block at st' r → AsTaken st card block at st' r
-  to-taken t =
+  to_taken : TakesLent st card block at st' r → AsTaken st card block at st' r
+  to_taken t =
       let w = takes st card block at in
       record { taken = taken st card block at; takes = w; answer = t.answer ∙ ap (λ (l : List ℕ). packed (numbers_in l)) (sym w.answer); station = t.station ∙ sym w.station }
 
-  from-taken : AsTaken st card block at st' r → TakesLent st card block at st' r
-  from-taken t =
+  from_taken : AsTaken st card block at st' r → TakesLent st card block at st' r
+  from_taken t =
       record { answer = t.answer ∙ ap (λ (l : List ℕ). packed (numbers_in l)) t.takes.answer; station = t.station ∙ t.takes.station }
 
   module _ {q : Taken} (t : TakesLent st card block at st' r) (k : Takes st card block at q) where
@@ -110,7 +110,7 @@ unmoved {r = r} t e = by r.told refl
 
 as_along : (card : ℕ) (block : List ℕ) (st : Station) (at : ℕ) (rs : List ℕ) (last : Station) → GoesThrough card block st at rs last → AsAlong card block st at rs last
 as_along card block st at rs last (stops s k s' r t e) =
-    let w = to-taken t in
+    let w = to_taken t in
     let a = w.takes in
     let n = a.next ∙ e in
     record {
@@ -120,7 +120,7 @@ as_along card block st at rs last (stops s k s' r t e) =
       read = ap (λ (j : ℕ). answers_read (j ∷ [])) w.answer ∙ read_one w.taken.told [] ∙ none_there w.taken.told (unmoved a n);
     }
 as_along card block st at rs last (goes s k s' r more l t n g) =
-    let w = to-taken t in
+    let w = to_taken t in
     let a = w.takes in
     let v : AsAlong card block w.taken.station w.taken.after more l =
     subst (λ (j : ℕ). AsAlong card block w.taken.station j more l) (sym a.next)
@@ -137,7 +137,7 @@ as_along card block st at rs last (goes s k s' r more l t n g) =
 pub laws : Laws
 laws =
     record {
-      as_taken = λ st card block at st' r. (to-taken, from-taken);
+      as_taken = λ st card block at st' r. (to_taken, from_taken);
       lowest = λ st card block at st' r q. lowest;
       above = λ st card block at st' r q. above;
       same_station = λ st card block rs last h g o. let w = as_along card block st 0 rs last g in (block-laws.same_station st card block w.answers last w.ended h w.along o).0;

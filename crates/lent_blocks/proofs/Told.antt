@@ -31,16 +31,16 @@ module _ {st : Station} {card : ℕ} {block : List ℕ} {at : ℕ} {r : Asked} (
         station = q ∙ sym (ap (after_calls st card) c);
       }
 
-  pub lent-offer : {s : List ℕ} {st' : Station} {k : ℕ} → T (eqb r.told 1) → s ≡ symbols_at block at → OffersLent st card r.channel r.epoch s st' k
+  pub lent_offer : {s : List ℕ} {st' : Station} {k : ℕ} → T (eqb r.told 1) → s ≡ symbols_at block at → OffersLent st card r.channel r.epoch s st' k
       → TakesLent st card block at st' (1 + 256 * k)
   unfolding answer_in after_call
-  lent-offer {s} {st'} {k} t w o =
+  lent_offer {s} {st'} {k} t w o =
       let e = eqb→eq r.told 1 t in
       one_call (Offer r.channel r.epoch s) k 1 st' (rw (e, w) refl) e o.answer o.station
 
-  pub lent-reset : {st' : Station} {k : ℕ} → T (eqb r.told 2) → ResetsLent st card r.channel st' k → TakesLent st card block at st' (2 + 256 * k)
+  pub lent_reset : {st' : Station} {k : ℕ} → T (eqb r.told 2) → ResetsLent st card r.channel st' k → TakesLent st card block at st' (2 + 256 * k)
   unfolding answer_in after_call
-  lent-reset {st'} {k} t o =
+  lent_reset {st'} {k} t o =
       let e = eqb→eq r.told 2 t in
       one_call (Reset r.channel) k 2 st' (rw e refl) e o.answer o.station
 

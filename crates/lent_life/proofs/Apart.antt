@@ -251,8 +251,8 @@ refused_at at false false true told why place e = ap (λ (l : List ℕ). get_or 
 refused_at at false false false told why place e = absurd (no_number why (ap (λ (l : List ℕ). get_or l 0 0) e))
 
 module _ {st : Station} {card : ℕ} {block : List ℕ} {at : ℕ} {r : Taken} (t : Takes st card block at r) where
-  offered-bytes : (a : Answer) → r.told ≡ Offered a → AreBytes (answer_paper a)
-  offered-bytes a e = answer_bytes st card (calls_at block at) (answer_paper a) (ap answers_in (sym e) ∙ its_answers t)
+  offered_bytes : (a : Answer) → r.told ≡ Offered a → AreBytes (answer_paper a)
+  offered_bytes a e = answer_bytes st card (calls_at block at) (answer_paper a) (ap answers_in (sym e) ∙ its_answers t)
 
   at_place : (why : Why) (place : ℕ) → r.told ≡ Refused why place → place ≡ at
   unfolding field_says
@@ -265,20 +265,20 @@ module _ {st : Station} {card : ℕ} {block : List ℕ} {at : ℕ} {r : Taken} (
           refused_at at (is_cut (length_in (drop at block)) (length (drop at block))) (is_unknown (tag_in (drop at block)))
           (is_wrong (tag_in (drop at block)) (length_in (drop at block))) _ why place p
 
-  lent-as : TakesLent st card block at (after_calls st card (calls_at block at)) (number_in (field_back r))
-  lent-as = record { answer = ap (λ (l : List ℕ). packed (numbers_in l)) t.answer; station = refl }
+  lent_as : TakesLent st card block at (after_calls st card (calls_at block at)) (number_in (field_back r))
+  lent_as = record { answer = ap (λ (l : List ℕ). packed (numbers_in l)) t.answer; station = refl }
 
   low_of : number_in (field_back r) % 256 ≡ lowest_of r.told
-  low_of = block-laws.lowest st card block at (after_calls st card (calls_at block at)) (number_in (field_back r)) r lent-as t
+  low_of = block-laws.lowest st card block at (after_calls st card (calls_at block at)) (number_in (field_back r)) r lent_as t
 
-  above-of : number_in (field_back r) / 256 ≡ above_of r.told
-  above-of = block-laws.above st card block at (after_calls st card (calls_at block at)) (number_in (field_back r)) r lent-as t
+  above_of_lem : number_in (field_back r) / 256 ≡ above_of r.told
+  above_of_lem = block-laws.above st card block at (after_calls st card (calls_at block at)) (number_in (field_back r)) r lent_as t
 
 field_apart : (st st' : Station) (card card' : ℕ) (block block' : List ℕ) (at : ℕ) (r r' : Taken) → Takes st card block at r
     → Takes st' card' block' at r' → field_back r ≡ field_back r' → r.told ≡ r'.told
 field_apart st st' card card' block block' at r r' t u e =
-    same_told at r.told r'.told (offered-bytes t) (offered-bytes u) (at_place t) (at_place u)
-    (sym (low_of t) ∙ ap (λ (b : Back). number_in b % 256) e ∙ low_of u) (sym (above-of t) ∙ ap (λ (b : Back). number_in b / 256) e ∙ above-of u)
+    same_told at r.told r'.told (offered_bytes t) (offered_bytes u) (at_place t) (at_place u)
+    (sym (low_of t) ∙ ap (λ (b : Back). number_in b % 256) e ∙ low_of u) (sym (above_of_lem t) ∙ ap (λ (b : Back). number_in b / 256) e ∙ above_of_lem u)
 
 -- ---- a query with an output that has room: the number and what the output holds
 -- with room, what comes back is the number and the output made
@@ -295,8 +295,8 @@ alone_is zero place told q e f = no_zero q (sym (ap (λ (l : List ℕ). get_or l
 alone_is (suc k) place told q e f = let g = f ∙ ap (λ (l : List ℕ). suc k ∷ l) e in g ∙ ap (λ (l : List ℕ). get_or l 0 0 ∷ []) (sym g)
 
 module _ (ts us : List Test) (told told' : List ℕ) (p : T (placeless ts)) (p' : T (placeless us)) where
-  refusals-same : (q w : Refusal) → refusal_paper q ≡ answer_of ts told → refusal_paper w ≡ answer_of us told' → get_or (refusal_paper q) 0 0 ≡ get_or (refusal_paper w) 0 0 → q ≡ w
-  refusals-same q w e f n =
+  refusals_same : (q w : Refusal) → refusal_paper q ≡ answer_of ts told → refusal_paper w ≡ answer_of us told' → get_or (refusal_paper q) 0 0 ≡ get_or (refusal_paper w) 0 0 → q ≡ w
+  refusals_same q w e f n =
       refusal_same q w
       (alone_is (first_of ts) (place_of ts) told q (no_place ts p) e ∙ ap (λ (k : ℕ). k ∷ []) n ∙ sym (alone_is (first_of us) (place_of us) told' w (no_place us p') f))
 
@@ -304,55 +304,55 @@ abbrev summary_by : List ℕ → Summary
 summary_by l = record { count = get_or l 0 0; oldest = get_or l 1 0; newest = get_or l 2 0 }
 
 module _ (st st' : Station) (card card' : ℕ) (out out' : List ℕ) where
-  summary-with : (room room' : Bool) → room ≡ true → room' ≡ true → (x y : SummaryFound) → FindsSummary st card x → FindsSummary st' card' y
+  summary_with : (room room' : Bool) → room ≡ true → room' ≡ true → (x y : SummaryFound) → FindsSummary st card x → FindsSummary st' card' y
       → Numbers (number_told room (summary_paper x)) (pick room (summary_out x out) out) ≡ Numbers (number_told room' (summary_paper y)) (pick room' (summary_out y out') out') → x ≡ y
   unfolding FindsSummary
-  summary-with false room' q w x y f g e = absurd (true≢false (sym q))
-  summary-with true false q w x y f g e = absurd (true≢false (sym w))
-  summary-with true true q w (FoundSummary s) (FoundSummary t) f g e = ap (λ (b : Back). FoundSummary (summary_by (out_in b))) e
-  summary-with true true q w (FoundSummary s) (NoSummary v) f g e = no_zero v (ap number_in e)
-  summary-with true true q w (NoSummary v) (FoundSummary t) f g e = no_zero v (sym (ap number_in e))
-  summary-with true true q w (NoSummary v) (NoSummary u) f g e =
-      ap NoSummary (refusals-same (card_test card ∷ []) (card_test card' ∷ []) _ _ tt tt v u f g (ap number_in e))
+  summary_with false room' q w x y f g e = absurd (true≢false (sym q))
+  summary_with true false q w x y f g e = absurd (true≢false (sym w))
+  summary_with true true q w (FoundSummary s) (FoundSummary t) f g e = ap (λ (b : Back). FoundSummary (summary_by (out_in b))) e
+  summary_with true true q w (FoundSummary s) (NoSummary v) f g e = no_zero v (ap number_in e)
+  summary_with true true q w (NoSummary v) (FoundSummary t) f g e = no_zero v (sym (ap number_in e))
+  summary_with true true q w (NoSummary v) (NoSummary u) f g e =
+      ap NoSummary (refusals_same (card_test card ∷ []) (card_test card' ∷ []) _ _ tt tt v u f g (ap number_in e))
 
 module _ (st st' : Station) (card card' c c' : ℕ) (out out' : List ℕ) where
-  tallies-with : (room room' : Bool) → room ≡ true → room' ≡ true → (x y : TalliesFound) → FindsTallies st card c x → FindsTallies st' card' c' y
+  tallies_with : (room room' : Bool) → room ≡ true → room' ≡ true → (x y : TalliesFound) → FindsTallies st card c x → FindsTallies st' card' c' y
       → Numbers (number_told room (tallies_paper x)) (pick room (tallies_out x out) out) ≡ Numbers (number_told room' (tallies_paper y)) (pick room' (tallies_out y out') out') → x ≡ y
   unfolding FindsTallies
-  tallies-with false room' q w x y f g e = absurd (true≢false (sym q))
-  tallies-with true false q w x y f g e = absurd (true≢false (sym w))
-  tallies-with true true q w (FoundTallies s) (FoundTallies t) f g e = tallies_same (FoundTallies s) (FoundTallies t) (ap (λ (b : Back). 0 ∷ out_in b) e)
-  tallies-with true true q w (FoundTallies s) (NoTallies v) f g e = no_zero v (ap number_in e)
-  tallies-with true true q w (NoTallies v) (FoundTallies t) f g e = no_zero v (sym (ap number_in e))
-  tallies-with true true q w (NoTallies v) (NoTallies u) f g e = ap NoTallies (refusals-same (gate_tests card c) (gate_tests card' c') _ _ tt tt v u f g (ap number_in e))
+  tallies_with false room' q w x y f g e = absurd (true≢false (sym q))
+  tallies_with true false q w x y f g e = absurd (true≢false (sym w))
+  tallies_with true true q w (FoundTallies s) (FoundTallies t) f g e = tallies_same (FoundTallies s) (FoundTallies t) (ap (λ (b : Back). 0 ∷ out_in b) e)
+  tallies_with true true q w (FoundTallies s) (NoTallies v) f g e = no_zero v (ap number_in e)
+  tallies_with true true q w (NoTallies v) (FoundTallies t) f g e = no_zero v (sym (ap number_in e))
+  tallies_with true true q w (NoTallies v) (NoTallies u) f g e = ap NoTallies (refusals_same (gate_tests card c) (gate_tests card' c') _ _ tt tt v u f g (ap number_in e))
 
 -- the 26 words are those of the four strings, one after the other
 abbrev words_by : List ℤ → ImmediateWords
 words_by l = record { one = string1_of l; two = string2_of (drop 5 l); three = string3_of (drop 11 l); four = string4_of (drop 18 l) }
 
 module _ (st st' : Station) (card card' c c' : ℕ) (words words' : List ℤ) (start start' : ℕ) where
-  record-with : (room room' : Bool) → room ≡ true → room' ≡ true → (x y : RecordFound) → FindsRecord st card c x → FindsRecord st' card' c' y
+  record_with : (room room' : Bool) → room ≡ true → room' ≡ true → (x y : RecordFound) → FindsRecord st card c x → FindsRecord st' card' c' y
       → Started (number_told room (record_paper x)) (pick room (words_out x words) words) (pick room (start_out x start) start)
       ≡ Started (number_told room' (record_paper y)) (pick room' (words_out y words') words') (pick room' (start_out y start') start') → x ≡ y
-  record-with false room' q w x y f g e = absurd (true≢false (sym q))
-  record-with true false q w x y f g e = absurd (true≢false (sym w))
-  record-with true true q w (FoundRecord a s) (FoundRecord b t) f g e = ap (λ (k : Back). FoundRecord (words_by (words_in k)) (start_in k)) e
-  record-with true true q w (FoundRecord a s) (NoRecord v) f g e = no_zero v (ap number_in e)
-  record-with true true q w (NoRecord v) (FoundRecord b t) f g e = no_zero v (sym (ap number_in e))
-  record-with true true q w (NoRecord v) (NoRecord u) f g e =
-      ap NoRecord (refusals-same (record_tests st card c) (record_tests st' card' c') [] [] tt tt v u f.answer g.answer (ap number_in e))
+  record_with false room' q w x y f g e = absurd (true≢false (sym q))
+  record_with true false q w x y f g e = absurd (true≢false (sym w))
+  record_with true true q w (FoundRecord a s) (FoundRecord b t) f g e = ap (λ (k : Back). FoundRecord (words_by (words_in k)) (start_in k)) e
+  record_with true true q w (FoundRecord a s) (NoRecord v) f g e = no_zero v (ap number_in e)
+  record_with true true q w (NoRecord v) (FoundRecord b t) f g e = no_zero v (sym (ap number_in e))
+  record_with true true q w (NoRecord v) (NoRecord u) f g e =
+      ap NoRecord (refusals_same (record_tests st card c) (record_tests st' card' c') [] [] tt tt v u f.answer g.answer (ap number_in e))
 
 module _ (st st' : Station) (card card' k k' : ℕ) (out out' : List ℤ) where
-  entry-with : (room room' : Bool) → room ≡ true → room' ≡ true → (x y : EntryFound) → FindsEntry st card k x → FindsEntry st' card' k' y
+  entry_with : (room room' : Bool) → room ≡ true → room' ≡ true → (x y : EntryFound) → FindsEntry st card k x → FindsEntry st' card' k' y
       → Words (number_told room (entry_paper x)) (pick room (entry_out x out) out) ≡ Words (number_told room' (entry_paper y)) (pick room' (entry_out y out') out') → SameWords x y
-  entry-with false room' q w x y f g e = absurd (true≢false (sym q))
-  entry-with true false q w x y f g e = absurd (true≢false (sym w))
-  entry-with true true q w (FoundEntry a) (FoundEntry b) f g e = found a b (ap words_in e)
-  entry-with true true q w (FoundEntry a) (NoEntry v) f g e = no_zero v (ap number_in e)
-  entry-with true true q w (NoEntry v) (FoundEntry b) f g e = no_zero v (sym (ap number_in e))
-  entry-with true true q w (NoEntry v) (NoEntry u) f g e =
+  entry_with false room' q w x y f g e = absurd (true≢false (sym q))
+  entry_with true false q w x y f g e = absurd (true≢false (sym w))
+  entry_with true true q w (FoundEntry a) (FoundEntry b) f g e = found a b (ap words_in e)
+  entry_with true true q w (FoundEntry a) (NoEntry v) f g e = no_zero v (ap number_in e)
+  entry_with true true q w (NoEntry v) (FoundEntry b) f g e = no_zero v (sym (ap number_in e))
+  entry_with true true q w (NoEntry v) (NoEntry u) f g e =
       subst (λ (z : Refusal). SameWords (NoEntry v) (NoEntry z))
-      (refusals-same (entry_tests st card k) (entry_tests st' card' k') _ _ tt tt v u f.answer g.answer (ap number_in e))
+      (refusals_same (entry_tests st card k) (entry_tests st' card' k') _ _ tt tt v u f.answer g.answer (ap number_in e))
       (refused v)
 
 -- ANY TWO ANSWERS ARE TOLD APART
@@ -364,13 +364,13 @@ told_apart =
       reset = λ st st' card card' c c' r r' o o' e. written_apart r.answer r'.answer e;
       field = field_apart;
       health = λ st st' card card' c c' x y f g e. health_apart x y e;
-      summary = λ st st' card card' out out' x y n n' f g e. summary-with st st' card card' out out' (has_room 3 out) (has_room 3 out') (roomy 3 out n) (roomy 3 out' n') x y f g e;
+      summary = λ st st' card card' out out' x y n n' f g e. summary_with st st' card card' out out' (has_room 3 out) (has_room 3 out') (roomy 3 out n) (roomy 3 out' n') x y f g e;
       tallies = λ st st' card card' c c' out out' x y n n' f g e.
-          tallies-with st st' card card' c c' out out' (has_room 14 out) (has_room 14 out') (roomy 14 out n) (roomy 14 out' n') x y f g e;
+          tallies_with st st' card card' c c' out out' (has_room 14 out) (has_room 14 out') (roomy 14 out n) (roomy 14 out' n') x y f g e;
       immediate = λ st st' card card' c c' words words' start start' x y n n' f g e.
-          record-with st st' card card' c c' words words' start start' (has_room 26 words) (has_room 26 words') (roomy 26 words n) (roomy 26 words' n') x y f g e;
+          record_with st st' card card' c c' words words' start start' (has_room 26 words) (has_room 26 words') (roomy 26 words n) (roomy 26 words' n') x y f g e;
       entry = λ st st' card card' k k' out out' x y n n' f g e.
-          entry-with st st' card card' k k' out out' (has_room 13 out) (has_room 13 out') (roomy 13 out n) (roomy 13 out' n') x y f g e;
+          entry_with st st' card card' k k' out out' (has_room 13 out) (has_room 13 out') (roomy 13 out n) (roomy 13 out' n') x y f g e;
       navigation = record_apart;
       book = λ a b ia ib e. sym (wire-laws.back a ia) ∙ ap book_from e ∙ wire-laws.back b ib;
     }

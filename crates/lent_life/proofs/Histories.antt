@@ -66,15 +66,15 @@ said_in from (call ∷ calls) = said_by (left_all from calls) call (said_in from
 
 -- ---- they lead from a fresh station to what is left
 module _ (before : List Said) (st : Station) (card : ℕ) (run : RunsFrom fresh_station before st) where
-  offer-more : (c epoch : ℕ) (s : List ℕ)
+  offer_more : (c epoch : ℕ) (s : List ℕ)
       → RunsFrom fresh_station (said (MadeOffer card c epoch s) (answer_of (station_tests st card c epoch s) (told_in st c epoch s)) ∷ before) (station_after st card c epoch s)
-  offer-more c epoch s =
+  offer_more c epoch s =
       let r : Stepped = record { station = station_after st card c epoch s; answer = (some_answer st card c epoch s).answer } in
       subst (λ (a : List ℕ). RunsFrom fresh_station (said (MadeOffer card c epoch s) a ∷ before) (station_after st card c epoch s)) (some_answer st card c epoch s).is
       (offers card c epoch s before st r run (offer_answers st card c epoch s))
 
-  reset-more : (c : ℕ) → RunsFrom fresh_station (said (MadeReset card c) (shut_says card c) ∷ before) (station_reset st card c)
-  reset-more c =
+  reset_more : (c : ℕ) → RunsFrom fresh_station (said (MadeReset card c) (shut_says card c) ∷ before) (station_reset st card c)
+  reset_more c =
       let r : Emptied = record { station = station_reset st card c; answer = reset_answer card c } in
       subst (λ (a : List ℕ). RunsFrom fresh_station (said (MadeReset card c) a ∷ before) (station_reset st card c)) (reset_answers st card c).answer
       (resets card c before st r run (reset_answers st card c))
@@ -83,14 +83,14 @@ field_more : (card : ℕ) (calls : List InField) (before : List Said) (st : Stat
     → RunsFrom fresh_station (said_then before card calls (answers_to st card calls)) (after_calls st card calls)
 unfolding said_then answers_to after_calls answer_in after_call
 field_more card [] before st run = run
-field_more card (InOffer c epoch s ∷ calls) before st run = field_more card calls _ _ (offer-more before st card run c epoch s)
-field_more card (InReset c ∷ calls) before st run = field_more card calls _ _ (reset-more before st card run c)
+field_more card (InOffer c epoch s ∷ calls) before st run = field_more card calls _ _ (offer_more before st card run c epoch s)
+field_more card (InReset c ∷ calls) before st run = field_more card calls _ _ (reset_more before st card run c)
 
 runs : (from : Station) (calls : List LentCall) → is_alone calls ≡ true → RunsFrom fresh_station (said_in from calls) (left_all from calls)
 runs from [] e = absurd (true≢false (sym e))
 runs from (Fresh ∷ calls) e = none
-runs from (Offer card c epoch s ∷ calls) e = offer-more (said_in from calls) (left_all from calls) card (runs from calls e) c epoch s
-runs from (Reset card c ∷ calls) e = reset-more (said_in from calls) (left_all from calls) card (runs from calls e) c
+runs from (Offer card c epoch s ∷ calls) e = offer_more (said_in from calls) (left_all from calls) card (runs from calls e) c epoch s
+runs from (Reset card c ∷ calls) e = reset_more (said_in from calls) (left_all from calls) card (runs from calls e) c
 runs from (Field card block at ∷ calls) e = field_more card (calls_at block at) (said_in from calls) (left_all from calls) (runs from calls e)
 runs from (Join s ∷ calls) e = by (eqb (length s) book_length) e (runs from calls)
   where

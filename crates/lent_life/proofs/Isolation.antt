@@ -35,7 +35,7 @@ use Rattle.station.specs.History.{fresh as fresh-run}
 use Rattle.station.specs.Isolation.{AgreeFor}
 use Rattle.station.proofs.Demands.{demands}
 use Rattle.station.proofs.Isolation.{by_row}
-use Rattle.station.proofs.Served.{shut-says, zero_served, served_below, owner_is}
+use Rattle.station.proofs.Served.{shut_says_lem, zero_served, served_below, owner_is}
 use Rattle.station.proofs.WellMade.{offer_made, reset_made}
 use Rattle.sites.specs.Joining.{join_books, site_joined}
 use Rattle.blocks.specs.Taking.{told_paper, after_call, after_calls, calls_at}
@@ -114,7 +114,7 @@ navigation_shut : (card c : ℕ) (out : List ℕ) (b : TheBook) (row : Row) → 
 navigation_shut card c out b row e =
     let ts = gate_tests card c ++ navigation_tests (length out) b row in
     let told = satellite_in row ∷ [] in
-    let said = shut-says card c (navigation_tests (length out) b row) told e in
+    let said = shut_says_lem card c (navigation_tests (length out) b row) told e in
     let first : first_of ts ≡ first_of (gate_tests card c) = sym (first_said ts told) ∙ ap (λ (l : List ℕ). get_or l 0 0) said ∙ first_said (gate_tests card c) [] in
     ap₂ (λ (l : List ℕ) (t : Bool). Numbers (packed l) (pick t (lines_by b row) out)) said
     (ap (λ (k : ℕ). eqb k 0) first ∙ ne_eqb (first_of (gate_tests card c)) 0 (λ z. true≢false (sym (zero_served card c z) ∙ e)))
@@ -126,16 +126,16 @@ module _ (card : ℕ) (st st' : Station) (w : WellMade st) (w' : WellMade st') (
   both : {x x' y y' : Station} → x ≡ y → x' ≡ y' → AgreeFor card y y' → AgreeFor card x x'
   both {x} {x'} {y} {y'} e f a = subst (λ (z : Station). AgreeFor card z x') (sym e) (subst (AgreeFor card y) (sym f) a)
 
-  own-offer : (c epoch : ℕ) (s : List ℕ) → Alike (Offer card c epoch s)
-  own-offer c epoch s =
+  own_offer : (c epoch : ℕ) (s : List ℕ) → Alike (Offer card c epoch s)
+  own_offer c epoch s =
       let call = Offer card c epoch s in
       let a = (lent-laws.as_offered st card c epoch s (left_by st call) (number_in (back_of st call))).0 (record { answer = refl; station = refl }) in
       let b = (lent-laws.as_offered st' card c epoch s (left_by st' call) (number_in (back_of st' call))).0 (record { answer = refl; station = refl }) in
       let k = (demands.answered_alike card st st' w w' agree).offers c epoch s a.step b.step a.offers b.offers in
       (ap Number (a.answer ∙ ap (λ (x : Answer). packed (answer_paper x)) k.0 ∙ sym b.answer), both a.station b.station k.1)
 
-  own-reset : (c : ℕ) → Alike (Reset card c)
-  own-reset c =
+  own_reset : (c : ℕ) → Alike (Reset card c)
+  own_reset c =
       let call = Reset card c in
       let a = (lent-laws.as_reset st card c (left_by st call) (number_in (back_of st call))).0 (record { answer = refl; station = refl }) in
       let b = (lent-laws.as_reset st' card c (left_by st' call) (number_in (back_of st' call))).0 (record { answer = refl; station = refl }) in
@@ -149,43 +149,43 @@ module _ (card : ℕ) (st st' : Station) (w : WellMade st) (w' : WellMade st') (
       let n : List ℕ → Back = λ l. Number (packed (numbers_in l)) in
       (ap n (sym t.answer ∙ ap told_paper k.0 ∙ u.answer), both (sym t.station) (sym u.station) k.1.1)
 
-  own-tallies : (c : ℕ) (out : List ℕ) → told_to st (Tallies card c out) ≡ told_to st' (Tallies card c out)
-  own-tallies c out =
+  own_tallies : (c : ℕ) (out : List ℕ) → told_to st (Tallies card c out) ≡ told_to st' (Tallies card c out)
+  own_tallies c out =
       let a = (demands.station_answers st).tallies_of card c in
       let b = (demands.station_answers st').tallies_of card c in
       sym (value_are st _ _ (tallies' st card c out a.answer a.fits))
       ∙ ap (λ (x : TalliesFound). tallies_back x out) ((demands.answered_alike card st st' w w' agree).tallies c a.answer b.answer a.fits b.fits)
       ∙ value_are st' _ _ (tallies' st' card c out b.answer b.fits)
 
-  own-record : (c : ℕ) (words : List ℤ) (start : ℕ) → told_to st (Immediate card c words start) ≡ told_to st' (Immediate card c words start)
-  own-record c words start =
+  own_record : (c : ℕ) (words : List ℤ) (start : ℕ) → told_to st (Immediate card c words start) ≡ told_to st' (Immediate card c words start)
+  own_record c words start =
       let a = (demands.station_answers st).immediate_of_lem card c in
       let b = (demands.station_answers st').immediate_of_lem card c in
       sym (value_are st _ _ (immediate' st card c words start a.answer a.fits))
       ∙ ap (λ (x : RecordFound). record_back x words start) ((demands.answered_alike card st st' w w' agree).records c a.answer b.answer a.fits b.fits)
       ∙ value_are st' _ _ (immediate' st' card c words start b.answer b.fits)
 
-  own-asked : (q : Question) → is_own card (Ask q) ≡ true → told_to st q ≡ told_to st' q
-  own-asked (Next block at) e = refl
-  own-asked (Summary asker out) e = no_own (eqb asker card) e
-  own-asked (Health asker c) e = no_own (eqb asker card) e
-  own-asked (Tallies asker c out) e =
+  own_asked : (q : Question) → is_own card (Ask q) ≡ true → told_to st q ≡ told_to st' q
+  own_asked (Next block at) e = refl
+  own_asked (Summary asker out) e = no_own (eqb asker card) e
+  own_asked (Health asker c) e = no_own (eqb asker card) e
+  own_asked (Tallies asker c out) e =
       let q = eqb-true asker card (its_own (eqb asker card) e) in
-      subst (λ (k : ℕ). told_to st (Tallies k c out) ≡ told_to st' (Tallies k c out)) (sym q) (own-tallies c out)
-  own-asked (Immediate asker c words start) e =
+      subst (λ (k : ℕ). told_to st (Tallies k c out) ≡ told_to st' (Tallies k c out)) (sym q) (own_tallies c out)
+  own_asked (Immediate asker c words start) e =
       let q = eqb-true asker card (its_own (eqb asker card) e) in
-      subst (λ (k : ℕ). told_to st (Immediate k c words start) ≡ told_to st' (Immediate k c words start)) (sym q) (own-record c words start)
-  own-asked (Entry asker k out) e = no_own (eqb asker card) e
-  own-asked (Book out) e = absurd (true≢false (sym e))
-  own-asked (Navigation asker c out) e = no_own (eqb asker card) e
+      subst (λ (k : ℕ). told_to st (Immediate k c words start) ≡ told_to st' (Immediate k c words start)) (sym q) (own_record c words start)
+  own_asked (Entry asker k out) e = no_own (eqb asker card) e
+  own_asked (Book out) e = absurd (true≢false (sym e))
+  own_asked (Navigation asker c out) e = no_own (eqb asker card) e
 
   own : (call : LentCall) → is_own card call ≡ true → Alike call
   own Fresh e = (refl, λ c h k. refl)
-  own (Offer asker c epoch s) e = subst (λ (k : ℕ). Alike (Offer k c epoch s)) (sym (eqb-true asker card (its_own (eqb asker card) e))) (own-offer c epoch s)
-  own (Reset asker c) e = subst (λ (k : ℕ). Alike (Reset k c)) (sym (eqb-true asker card (its_own (eqb asker card) e))) (own-reset c)
+  own (Offer asker c epoch s) e = subst (λ (k : ℕ). Alike (Offer k c epoch s)) (sym (eqb-true asker card (its_own (eqb asker card) e))) (own_offer c epoch s)
+  own (Reset asker c) e = subst (λ (k : ℕ). Alike (Reset k c)) (sym (eqb-true asker card (its_own (eqb asker card) e))) (own_reset c)
   own (Field asker block at) e = subst (λ (k : ℕ). Alike (Field k block at)) (sym (eqb-true asker card (its_own (eqb asker card) e))) (own_field block at)
   own (Join s) e = absurd (true≢false (sym e))
-  own (Ask q) e = (own-asked q e, agree)
+  own (Ask q) e = (own_asked q e, agree)
 
   -- where they have one book and its summary
   module _ (same : st.book ≡ st'.book) (summed : st.summary ≡ st'.summary) where
@@ -215,8 +215,8 @@ module _ (card : ℕ) (st st' : Station) (w : WellMade st) (w' : WellMade st') (
     all_asked (Next block at) e = refl
     all_asked (Summary asker out) e = ap (tellsSummary asker out) summed
     all_asked (Health asker c) e = subst (λ (k : ℕ). told_to st (Health k c) ≡ told_to st' (Health k c)) (sym (eqb-true asker card e)) (own-health c)
-    all_asked (Tallies asker c out) e = own-asked (Tallies asker c out) (ap (λ (b : Bool). b && true) e)
-    all_asked (Immediate asker c words start) e = own-asked (Immediate asker c words start) (ap (λ (b : Bool). b && true) e)
+    all_asked (Tallies asker c out) e = own_asked (Tallies asker c out) (ap (λ (b : Bool). b && true) e)
+    all_asked (Immediate asker c words start) e = own_asked (Immediate asker c words start) (ap (λ (b : Bool). b && true) e)
     all_asked (Entry asker k out) e = ap (tellsEntry asker k out) same
     all_asked (Book out) e = absurd (true≢false (sym e))
     all_asked (Navigation asker c out) e =

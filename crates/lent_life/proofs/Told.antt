@@ -14,7 +14,7 @@ use Rattle.strings.specs.declared.Refusal.{Refusal}
 use Rattle.strings.specs.Numbers.{refusal_paper, Test, test, first_of, place_of, said_by, answer_of}
 use Rattle.strings.proofs.Answer.{not_taken}
 use Rattle.strings.proofs.Below.{and_left, and_right}
-use Rattle.strings.proofs.Tests.{placeless, all_of, first-of}
+use Rattle.strings.proofs.Tests.{placeless, all_of, first_of_lem}
 use Rattle.fields.specs.Fields.{size_at}
 use Rattle.words.specs.Immediate.{immediate_of}
 use Rattle.book.specs.Entry.{meaning}
@@ -88,7 +88,7 @@ with_room room k = pick room k (pick (is_after k) 12 k)
 first_room : (us ts : List Test) (room : Bool) → T (all_of is_before us) → T (all_of is_after ts)
     → first_of (us ++ (test 12 (not room) ∷ ts)) ≡ with_room room (first_of (us ++ ts))
 first_room [] ts true a b = refl
-first_room [] ts false a b = ap (λ (t : Bool). pick t 12 (first_of ts)) (sym (always (is_after (first_of ts)) (first-of is_after ts b tt)))
+first_room [] ts false a b = ap (λ (t : Bool). pick t 12 (first_of ts)) (sym (always (is_after (first_of ts)) (first_of_lem is_after ts b tt)))
 first_room (u ∷ us) ts room a b =
     by u.fits u.number room (never (is_after u.number) (and_left (is_before u.number) (all_of is_before us) a))
     (first_room us ts room (and_right (is_before u.number) (all_of is_before us) a) b)
@@ -127,8 +127,8 @@ module _ {X : Type 0} (us ts : List Test) (n : ℕ) (out : List X) (a : T (all_o
       ap (with_room (has_room n out)) (ap (λ (l : List ℕ). get_or l 0 0) e ∙ begins (first_of (us ++ ts)) (place_of (us ++ ts)) told)
       ∙ sym (number_of (us ++ (room_test n out ∷ ts)) p ∙ first_room us ts (has_room n out) a b)
 
-  out-same : {Y : Type 0} (made was now : Y) → now ≡ pick (eqb (first_of (us ++ ts)) 0) made was → pick (has_room n out) now was ≡ left_in (us ++ (room_test n out ∷ ts)) made was
-  out-same {Y} made was now e =
+  out_same : {Y : Type 0} (made was now : Y) → now ≡ pick (eqb (first_of (us ++ ts)) 0) made was → pick (has_room n out) now was ≡ left_in (us ++ (room_test n out ∷ ts)) made was
+  out_same {Y} made was now e =
       ap (λ (y : Y). pick (has_room n out) y was) e ∙ sym (left_room (has_room n out) (first_of (us ++ ts)) made was)
       ∙ ap (λ (k : ℕ). pick (eqb k 0) made was) (sym (first_room us ts (has_room n out) a b))
 
@@ -142,8 +142,8 @@ refused_is why zero place told e = absurd (not_taken why told e)
 refused_is why (suc k) place told e = ne_eqb (suc k) 0 (λ z. suc-ne-zero k z)
 
 module _ (tests : List Test) (told : List ℕ) where
-  taken-first : (l : List ℕ) → 0 ∷ l ≡ answer_of tests told → (first_of tests ≡ 0) × (l ≡ told)
-  taken-first l e = found_is (first_of tests) (place_of tests) told l e
+  taken_first : (l : List ℕ) → 0 ∷ l ≡ answer_of tests told → (first_of tests ≡ 0) × (l ≡ told)
+  taken_first l e = found_is (first_of tests) (place_of tests) told l e
 
   found : {Y : Type 0} (made out y : Y) → first_of tests ≡ 0 → y ≡ made → y ≡ pick (eqb (first_of tests) 0) made out
   found made out y z e = e ∙ ap (λ (k : ℕ). pick (eqb k 0) made out) (sym z)
@@ -157,7 +157,7 @@ unfolding FindsSummary
 summary_out_lem st card out (FoundSummary s) f =
     let ts = card_test card ∷ [] in
     let m = summary_numbers st.summary in
-    let w = taken-first ts m (summary_numbers s) f in found ts m m out (summary_numbers s) w.0 w.1
+    let w = taken_first ts m (summary_numbers s) f in found ts m m out (summary_numbers s) w.0 w.1
 summary_out_lem st card out (NoSummary why) f = refused (card_test card ∷ []) (summary_numbers st.summary) why (summary_numbers st.summary) out f
 
 tallies_out_lem : (st : Station) (card c : ℕ) (out : List ℕ) (x : TalliesFound) → FindsTallies st card c x
@@ -166,7 +166,7 @@ unfolding FindsTallies
 tallies_out_lem st card c out (FoundTallies t) f =
     let ts = gate_tests card c in
     let m = all_counts (row_at st c).tallies in
-    let w = taken-first ts m (all_counts t) f in found ts m m out (all_counts t) w.0 w.1
+    let w = taken_first ts m (all_counts t) f in found ts m m out (all_counts t) w.0 w.1
 tallies_out_lem st card c out (NoTallies why) f = refused (gate_tests card c) (all_counts (row_at st c).tallies) why (all_counts (row_at st c).tallies) out f
 
 entry_out_lem : (st : Station) (card k : ℕ) (out : List ℤ) (x : EntryFound) → FindsEntry st card k x
@@ -174,7 +174,7 @@ entry_out_lem : (st : Station) (card k : ℕ) (out : List ℤ) (x : EntryFound) 
 entry_out_lem st card k out (FoundEntry e) f =
     let ts = entry_tests st card k in
     let m = three_numbers (meaning (in_slot st.book k)) in
-    let w = taken-first ts m (three_numbers (meaning e)) f.answer in
+    let w = taken_first ts m (three_numbers (meaning e)) f.answer in
     found ts m (entry_numbers (in_slot st.book k)) out (entry_numbers e) w.0 (ap entry_numbers (f.entry e refl))
 entry_out_lem st card k out (NoEntry why) f =
     refused (entry_tests st card k) (three_numbers (meaning (in_slot st.book k))) why (entry_numbers (in_slot st.book k)) out f.answer
@@ -183,14 +183,14 @@ words_out_lem : (st : Station) (card c : ℕ) (out : List ℤ) (x : RecordFound)
     → words_out x out ≡ pick (eqb (first_of (record_tests st card c)) 0) (words_list (immediate_of (kept_at st c).strings)) out
 words_out_lem st card c out (FoundRecord w s) f =
     let ts = record_tests st card c in
-    found ts [] (words_list (immediate_of (kept_at st c).strings)) out (words_list w) (taken-first ts [] [] f.answer).0 (ap words_list (f.words w s refl).0)
+    found ts [] (words_list (immediate_of (kept_at st c).strings)) out (words_list w) (taken_first ts [] [] f.answer).0 (ap words_list (f.words w s refl).0)
 words_out_lem st card c out (NoRecord why) f = refused (record_tests st card c) [] why (words_list (immediate_of (kept_at st c).strings)) out f.answer
 
 start_out_lem : (st : Station) (card c : ℕ) (was : ℕ) (x : RecordFound) → FindsRecord st card c x
     → start_out x was ≡ pick (eqb (first_of (record_tests st card c)) 0) (kept_at st c).start was
 start_out_lem st card c was (FoundRecord w s) f =
     let ts = record_tests st card c in
-    found ts [] (kept_at st c).start was s (taken-first ts [] [] f.answer).0 (f.words w s refl).1
+    found ts [] (kept_at st c).start was s (taken_first ts [] [] f.answer).0 (f.words w s refl).1
 start_out_lem st card c was (NoRecord why) f = refused (record_tests st card c) [] why (kept_at st c).start was f.answer
 
 -- ---- what a question tells
@@ -251,23 +251,23 @@ value_are st q back (next' s card block at r t) = ap Number t.next
 value_are st q back (summary' s card out x f) =
     let us = card_test card ∷ [] in
     ap₂ Numbers (number_same us [] 3 out tt tt tt (summary_paper x) (summary_numbers s.summary) f)
-    (out-same us [] 3 out tt tt tt (summary_numbers s.summary) out (summary_out x out) (summary_out_lem s card out x f))
+    (out_same us [] 3 out tt tt tt (summary_numbers s.summary) out (summary_out x out) (summary_out_lem s card out x f))
 value_are st q back (health' s card c x f) = ap (λ (l : List ℕ). Number (packed l)) f
 value_are st q back (tallies' s card c out x f) =
     let us = gate_tests card c in
     ap₂ Numbers (number_same us [] 14 out tt tt tt (tallies_paper x) (all_counts (row_at s c).tallies) f)
-    (out-same us [] 14 out tt tt tt (all_counts (row_at s c).tallies) out (tallies_out x out) (tallies_out_lem s card c out x f))
+    (out_same us [] 14 out tt tt tt (all_counts (row_at s c).tallies) out (tallies_out x out) (tallies_out_lem s card c out x f))
 value_are st q back (immediate' s card c words start x f) =
     let us = gate_tests card c in
     let ts = test 13 (not (has_record (kept_at s c))) ∷ [] in
     started (number_same us ts 26 words tt tt tt (record_paper x) [] f.answer)
-    (out-same us ts 26 words tt tt tt (words_list (immediate_of (kept_at s c).strings)) words (words_out x words) (words_out_lem s card c words x f))
-    (out-same us ts 26 words tt tt tt (kept_at s c).start start (start_out x start) (start_out_lem s card c start x f))
+    (out_same us ts 26 words tt tt tt (words_list (immediate_of (kept_at s c).strings)) words (words_out x words) (words_out_lem s card c words x f))
+    (out_same us ts 26 words tt tt tt (kept_at s c).start start (start_out x start) (start_out_lem s card c start x f))
 value_are st q back (entry' s card k out x f) =
     let us = slot_tests card k in
     let ts = test 13 (is_empty s.book k) ∷ [] in
     ap₂ Words (number_same us ts 13 out tt tt tt (entry_paper x) (three_numbers (meaning (in_slot s.book k))) f.answer)
-    (out-same us ts 13 out tt tt tt (entry_numbers (in_slot s.book k)) out (entry_out x out) (entry_out_lem s card k out x f))
+    (out_same us ts 13 out tt tt tt (entry_numbers (in_slot s.book k)) out (entry_out x out) (entry_out_lem s card k out x f))
 value_are st q back (book' s out e) = ap (λ (t : Bool). Numbers (pick t 0 12) (pick t (book_bytes s.book) out)) (sym (eq-eqb (length out) book_length e))
 value_are st q back (no_room_lem s out n) = ap (λ (t : Bool). Numbers (pick t 0 12) (pick t (book_bytes s.book) out)) (sym (ne_eqb (length out) book_length n))
 value_are st q back (navigation' s card c out x text w) =

@@ -23,10 +23,10 @@ use Rattle.channel.specs.declared.Row.{Row}
 use Rattle.station.specs.declared.Station.{Station}
 use Rattle.station.specs.Station.{row_at, gate_tests, is_served}
 use Rattle.station.specs.Queries.{kept_at, satellite_of, is_slot, is_empty}
-use Rattle.station.proofs.Served.{open-says, shut-says, number_open}
+use Rattle.station.proofs.Served.{open_says, shut_says_lem, number_open}
 use Rattle.navigation_queries.specs.Five.{has_five, five_at}
 use Rattle.navigation_queries.specs.Carrier.{has_entry}
-use Rattle.navigation_queries.proofs.Five.{text-there}
+use Rattle.navigation_queries.proofs.Five.{text_there}
 use Rattle.navigation.specs.Writes.{words_at, n_at, is_there, text_at}
 use Rattle.navigation.specs.Gathers.{all_tests}
 use Rattle.told.specs.Told.{packed}
@@ -66,7 +66,7 @@ module _ (st : Station) (card c : ℕ) (out : List ℕ) where
       let first : first_of (gate_tests card c ++ rest) ≡ z = first_stops (gate_tests card c) rest z e l in
       let some : eqb (first_of (gate_tests card c ++ rest)) 0 ≡ false = ap (λ (k : ℕ). eqb k 0) first ∙ ne_eqb z 0 (λ q. omega (arith, q, l)) in
       record {
-        answer = alone ∙ ap packed (sym p.1 ∙ sym (shut-says card c rest told p.0));
+        answer = alone ∙ ap packed (sym p.1 ∙ sym (shut_says_lem card c rest told p.0));
         output = ap (λ (b : Bool). pick b text out) (sym some);
       }
 
@@ -74,7 +74,7 @@ module _ (st : Station) (card c : ℕ) (out : List ℕ) where
   opened : (out' : List ℕ) (r : ℕ) → is_served card c ≡ true → TellsAll rest told text out out' r → TellsNavigation st card c out out' r
   opened out' r n g =
       record {
-        answer = g.answer ∙ ap packed (sym (open-says card c rest told n));
+        answer = g.answer ∙ ap packed (sym (open_says card c rest told n));
         output = g.output ∙ ap (λ (k : ℕ). pick (eqb k 0) text out) (sym (first_passes (gate_tests card c) rest tt (sym (number_open card c n))));
       }
 
@@ -100,8 +100,8 @@ module _ (st : Station) (card c : ℕ) (out : List ℕ) where
     slot_is : slot_of (kept_at st c) ≡ s
     slot_is = ap (λ (y : Row). slot_of y.immediate) (sym er) ∙ sym es
 
-    pub navigation-none : s ≡ 0 → TellsNavigation st card c out out 13
-    navigation-none z = nothing n (no_slot (slot_is ∙ z))
+    pub navigation_none : s ≡ 0 → TellsNavigation st card c out out 13
+    navigation_none z = nothing n (no_slot (slot_is ∙ z))
 
     -- the record's n is the slot
     slot-parts : (s ≡ 0 → ⊥) → (has_record (kept_at st c) ≡ true) × ((is_slot (n_at st c) ≡ true) × (s ≡ n_at st c))
@@ -113,9 +113,9 @@ module _ (st : Station) (card c : ℕ) (out : List ℕ) where
         let one : 1 ≤ satellite_of i = omega (arith, f, k) in
         (p.0, (ap is_slot (n_is st c) ∙ rw (p.1.0, le-leb 1 (satellite_of i) one), k ∙ sym (n_is st c)))
 
-    pub navigation-some : (e : Entry) (out' : List ℕ) (k : ℕ) → (s ≡ 0 → ⊥) → e ≡ entry_at st (s - 1) → PutsNavigation r e out out' k → TellsNavigation st card c out out' k
+    pub navigation_some : (e : Entry) (out' : List ℕ) (k : ℕ) → (s ≡ 0 → ⊥) → e ≡ entry_at st (s - 1) → PutsNavigation r e out out' k → TellsNavigation st card c out out' k
     unfolding text_at
-    navigation-some e out' k f ee g =
+    navigation_some e out' k f ee g =
         let p = slot-parts f in
         let ee' : e ≡ in_slot st.book (n_at st c) = ee ∙ ap (in_slot st.book) p.1.1 in
         let there : is_there st c ≡ is_there_in (row_at st c) (in_slot st.book (n_at st c)) = rw (p.0, p.1.0) in
@@ -130,4 +130,4 @@ module _ (st : Station) (card c : ℕ) (out : List ℕ) where
             let o : out' ≡ out = g.output ∙ rw q in
             subst (λ (x : List ℕ). TellsNavigation st card c out x k) (sym o) (subst (λ (x : ℕ). TellsNavigation st card c out out x) (sym a) (nothing n (there ∙ q)))
         by true h there g =
-            opened out' k n (rw (there, text-there (row_at st c) h) g)
+            opened out' k n (rw (there, text_there (row_at st c) h) g)

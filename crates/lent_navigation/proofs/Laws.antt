@@ -8,7 +8,7 @@ use lib.Dec.{ltb, ltb→lt}
 use lib.ListN.{length, get_or, take}
 use Rattle.strings.specs.Numbers.{Test, first_of, place_of, said_by, answer_of, left_by, Answers, Exactly}
 use Rattle.strings.proofs.Answer.{exactly}
-use Rattle.strings.proofs.Tests.{first-of}
+use Rattle.strings.proofs.Tests.{first_of_lem}
 use Rattle.channel.proofs.HeldFrame.{first_said}
 use Rattle.station.specs.declared.Station.{Station}
 use Rattle.navigation.specs.declared.Answer.{Answer}
@@ -39,7 +39,7 @@ module _ (st : Station) (card c : ℕ) (out out' : List ℕ) (r : ℕ) (t : Tell
   )
 
   number_is : r % 256 ≡ first_of tests
-  number_is = ap (λ (k : ℕ). k % 256) t.answer ∙ low_byte (first_of tests) (place_of tests) told (ltb→lt (first_of tests) 256 (first-of (λ (k : ℕ). ltb k 256) tests tt tt))
+  number_is = ap (λ (k : ℕ). k % 256) t.answer ∙ low_byte (first_of tests) (place_of tests) told (ltb→lt (first_of tests) 256 (first_of_lem (λ (k : ℕ). ltb k 256) tests tt tt))
 
   number : (out'' : List ℕ) (x : Answer) → Writes st card c out x out'' → r % 256 ≡ get_or (answer_paper x) 0 0
   unfolding Writes

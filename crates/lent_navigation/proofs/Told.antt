@@ -24,7 +24,7 @@ use Rattle.channel.specs.declared.Row.{Row}
 use Rattle.channel.specs.Row.{is_present, still_holds}
 use Rattle.station.specs.declared.Station.{Station}
 use Rattle.navigation_queries.specs.Five.{has_five, five_of}
-use Rattle.navigation_queries.proofs.Five.{text-there}
+use Rattle.navigation_queries.proofs.Five.{text_there}
 use Rattle.navigation.specs.declared.Answer.{Answer}
 use Rattle.navigation.specs.declared.Answer.TheVariants.{Written}
 use Rattle.navigation.specs.Writes.{answer_paper}
@@ -94,8 +94,8 @@ left_is (suc k) made out = ap (λ (t : Bool). pick t made out) (sym (ne_eqb (suc
 
 -- ---- by a row and an entry
 module _ (row : Row) (e : Entry) (out : List ℕ) where
-  pub put-missing : is_there_in row e ≡ false → PutsNavigation row e out out 13
-  put-missing q = record { answer = rw q; output = rw q }
+  pub put_missing : is_there_in row e ≡ false → PutsNavigation row e out out 13
+  put_missing q = record { answer = rw q; output = rw q }
 
   pub put_written : (a : Answer) (out' : List ℕ) (r : ℕ) → is_there_in row e ≡ true → WritesAll (words_in row) (n4_in row) (odd_words (meaning e)).h out a out'
       → r ≡ packed (take 2 (answer_paper a)) → PutsNavigation row e out out' r
@@ -115,4 +115,4 @@ has_both_lem row h = (both (has_record row.immediate) _ (both (still_holds row) 
 pub row_read : (row : Row) → has_five row ≡ true → AsRead (words_in row) (n4_in row)
 row_read row h =
     let st : Station = record { rows = row ∷ []; book = empty_book; summary = none_filled } in
-    subst (λ (n : ℕ). AsRead (words_in row) (five_of n).n4) (text-there row h) (as_read st 0 (has_both_lem row h))
+    subst (λ (n : ℕ). AsRead (words_in row) (five_of n).n4) (text_there row h) (as_read st 0 (has_both_lem row h))

@@ -29,8 +29,8 @@ module _ {X : Type 0} where
   stored d (x ∷ xs) (y ∷ ys) zero h k = refl
   stored d (x ∷ xs) (y ∷ ys) (suc i) h k = ap (λ (l : List X). x ∷ l) (stored d xs ys i (le_of_suc-le-suc h) (le_of_suc-le-suc k))
 
-  pub whole-copied : (src dst : List X) → length dst ≡ length src → take (length src) src ++ drop (length src) dst ≡ src
-  whole-copied [] [] e = refl
-  whole-copied [] (y ∷ ys) e = absurd (suc-ne-zero _ e)
-  whole-copied (x ∷ xs) [] e = absurd (suc-ne-zero _ (sym e))
-  whole-copied (x ∷ xs) (y ∷ ys) e = ap (λ (l : List X). x ∷ l) (whole-copied xs ys (suc_inj e))
+  pub whole_copied : (src dst : List X) → length dst ≡ length src → take (length src) src ++ drop (length src) dst ≡ src
+  whole_copied [] [] e = refl
+  whole_copied [] (y ∷ ys) e = absurd (suc-ne-zero _ e)
+  whole_copied (x ∷ xs) [] e = absurd (suc-ne-zero _ (sym e))
+  whole_copied (x ∷ xs) (y ∷ ys) e = ap (λ (l : List X). x ∷ l) (whole_copied xs ys (suc_inj e))

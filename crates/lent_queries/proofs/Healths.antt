@@ -20,7 +20,7 @@ use Rattle.immediate.specs.Kept.{has_record}
 use Rattle.channel.specs.declared.Row.{Row}
 use Rattle.station.specs.declared.Station.{Station}
 use Rattle.station.specs.Station.{row_at, gate_tests, is_served}
-use Rattle.station.proofs.Served.{open-says, shut-says}
+use Rattle.station.proofs.Served.{open_says, shut_says_lem}
 use Rattle.lent.proofs.Gate.{shut_out}
 use Rattle.told.specs.Told.{packed}
 use Rattle.lent_queries.specs.Lent.{entry_at, TellsHealth}
@@ -63,27 +63,27 @@ module _ (st : Station) (card c : ℕ) where
   abbrev told : List ℕ
   told = health_number (health_by (kept_at st c) st.book) ∷ []
 
-  pub health-shut : (z : ℕ) → z ≡ first_of (gate_tests card c) → T (ltb 0 z) → TellsHealth st card c z
+  pub health_shut : (z : ℕ) → z ≡ first_of (gate_tests card c) → T (ltb 0 z) → TellsHealth st card c z
   unfolding TellsHealth
-  health-shut z e t =
+  health_shut z e t =
       let p = shut_out card c z e t in
       let alone : z ≡ packed (z ∷ []) = omega arith in
-      alone ∙ ap packed (sym p.1 ∙ sym (shut-says card c [] told p.0))
+      alone ∙ ap packed (sym p.1 ∙ sym (shut_says_lem card c [] told p.0))
 
   opened : (k : ℕ) (x : Health) → is_served card c ≡ true → health_by (kept_at st c) st.book ≡ x → k ≡ 256 * health_number x → TellsHealth st card c k
   unfolding TellsHealth
   opened k x n e q =
       let two : 256 * health_number x ≡ packed (0 ∷ health_number x ∷ []) = omega arith in
-      q ∙ two ∙ ap (λ (y : Health). packed (0 ∷ health_number y ∷ [])) (sym e) ∙ ap packed (sym (open-says card c [] told n))
+      q ∙ two ∙ ap (λ (y : Health). packed (0 ∷ health_number y ∷ [])) (sym e) ∙ ap packed (sym (open_says card c [] told n))
 
   module _ (r : Row) (s : ℕ) (n : is_served card c ≡ true) (er : r ≡ row_at st c) (es : s ≡ slot_of r.immediate) where
     slot_is : slot_of (kept_at st c) ≡ s
     slot_is = ap (λ (y : Row). slot_of y.immediate) (sym er) ∙ sym es
 
-    pub health-none : s ≡ 0 → TellsHealth st card c 0
-    health-none z = opened 0 Unknown n (no_slot (kept_at st c) st.book (slot_is ∙ z)) refl
+    pub health_none : s ≡ 0 → TellsHealth st card c 0
+    health_none z = opened 0 Unknown n (no_slot (kept_at st c) st.book (slot_is ∙ z)) refl
 
-    pub health-some : (e : Entry) (k : ℕ) → (s ≡ 0 → ⊥) → e ≡ entry_at st (s - 1) → k ≡ 256 * health_number (health_at r.immediate e) → TellsHealth st card c k
-    health-some e k f ee ek =
+    pub health_some : (e : Entry) (k : ℕ) → (s ≡ 0 → ⊥) → e ≡ entry_at st (s - 1) → k ≡ 256 * health_number (health_at r.immediate e) → TellsHealth st card c k
+    health_some e k f ee ek =
         opened k (health_at (kept_at st c) e) n (by_slot (kept_at st c) st.book e (λ z. f (sym slot_is ∙ z)) (ee ∙ ap (in_slot st.book) (sym slot_is)))
         (ek ∙ ap (λ (y : Row). 256 * health_number (health_at y.immediate e)) er)

@@ -48,15 +48,15 @@ first_passes (u ∷ us) ts a e =
     by false n z q next = next q
 
 module _ {X : Type 0} (made out : X) where
-  left-as-was : (k : ℕ) → 0 < k → out ≡ pick (eqb k 0) made out
-  left-as-was k l = rw (ne_eqb k 0 (λ e. omega (arith, e, l)))
+  left_as_was : (k : ℕ) → 0 < k → out ≡ pick (eqb k 0) made out
+  left_as_was k l = rw (ne_eqb k 0 (λ e. omega (arith, e, l)))
 
   -- a walk tests the number z of the tests that stand first for 0
   pub stopped : (us ts : List Test) (z : ℕ) → T (placeless (us ++ ts)) → z ≡ first_of us → T (ltb 0 z) → Tells (us ++ ts) made out out z
   stopped us ts z p e t =
       let l = ltb→lt 0 z t in
       let f = first_stops us ts z e l in
-      record { answer = sym f ∙ sym (number_of (us ++ ts) p); output = left-as-was z l ∙ ap (λ (k : ℕ). pick (eqb k 0) made out) (sym f) }
+      record { answer = sym f ∙ sym (number_of (us ++ ts) p); output = left_as_was z l ∙ ap (λ (k : ℕ). pick (eqb k 0) made out) (sym f) }
 
   pub let_through : (us ts : List Test) (out' : X) (z r : ℕ) → T (placeless (us ++ ts)) → T (placeless ts) → T (all_of is_number us) → z ≡ first_of us → T (not (ltb 0 z)) → Tells ts made out out' r → Tells (us ++ ts) made out out' r
   let_through us ts out' z r p p' a e n g =
@@ -66,17 +66,17 @@ module _ {X : Type 0} (made out : X) where
 
 -- ---- ROOM, and NOTHING after it
 module _ {X Y : Type 0} (n : ℕ) (out : List X) (made was : Y) where
-  pub room-none : (ts : List Test) → (length out ≡ n → ⊥) → Tells (room_test n out ∷ ts) made was was 12
-  room-none ts f = let q = ne_eqb (length out) n f in record { answer = rw q; output = rw q }
+  pub room_none : (ts : List Test) → (length out ≡ n → ⊥) → Tells (room_test n out ∷ ts) made was was 12
+  room_none ts f = let q = ne_eqb (length out) n f in record { answer = rw q; output = rw q }
 
-  pub then-nothing : (b : Bool) → length out ≡ n → b ≡ true → Tells (room_test n out ∷ test 13 b ∷ []) made was was 13
-  then-nothing b e g = let q = eq-eqb (length out) n e in record { answer = rw (q, g); output = rw (q, g) }
+  pub then_nothing : (b : Bool) → length out ≡ n → b ≡ true → Tells (room_test n out ∷ test 13 b ∷ []) made was was 13
+  then_nothing b e g = let q = eq-eqb (length out) n e in record { answer = rw (q, g); output = rw (q, g) }
 
-  pub then-made : (b : Bool) (now' : Y) → length out ≡ n → b ≡ false → now' ≡ made → Tells (room_test n out ∷ test 13 b ∷ []) made was now' 0
-  then-made b now' e g m = let q = eq-eqb (length out) n e in record { answer = rw (q, g); output = rw (q, g, m) }
+  pub then_made_lem : (b : Bool) (now' : Y) → length out ≡ n → b ≡ false → now' ≡ made → Tells (room_test n out ∷ test 13 b ∷ []) made was now' 0
+  then_made_lem b now' e g m = let q = eq-eqb (length out) n e in record { answer = rw (q, g); output = rw (q, g, m) }
 
 pub no_room_lem : (n : ℕ) (made out : List ℕ) → (length out ≡ n → ⊥) → PutsOut n made out out 12
-no_room_lem n made out f = room-none n out made out [] f
+no_room_lem n made out f = room_none n out made out [] f
 
 pub has_room_lem : (n : ℕ) (made out out' : List ℕ) → length out ≡ n → out' ≡ made → PutsOut n made out out' 0
 has_room_lem n made out out' e m = let q = eq-eqb (length out) n e in record { answer = rw q; output = rw (q, m) }

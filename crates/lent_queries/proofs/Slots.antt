@@ -24,14 +24,14 @@ module _ (card k z : ℕ) (e : z ≡ first_of (card_test card ∷ [])) (l : z �
   by : (t : Bool) → is_slot k ≡ t → pick (not t) 14 0 ≡ first_of (slot_tests card k)
   by t q = ap (λ (u : Bool). pick (not u) 14 0) (sym q) ∙ sym rest
 
-  pub slot-low : k ≡ 0 → 14 ≡ first_of (slot_tests card k)
-  slot-low q = by false (rw (lt-leb 1 k (omega (arith, q))))
+  pub slot_low : k ≡ 0 → 14 ≡ first_of (slot_tests card k)
+  slot_low q = by false (rw (lt-leb 1 k (omega (arith, q))))
 
-  pub slot-high : slots < k → 14 ≡ first_of (slot_tests card k)
-  slot-high h = by false (rw (le-leb 1 k (omega (arith, h)), lt-leb k slots h))
+  pub slot_high : slots < k → 14 ≡ first_of (slot_tests card k)
+  slot_high h = by false (rw (le-leb 1 k (omega (arith, h)), lt-leb k slots h))
 
-  pub slot-good : 1 ≤ k → k ≤ slots → 0 ≡ first_of (slot_tests card k)
-  slot-good h h' = by true (rw (le-leb 1 k h, le-leb k slots h'))
+  pub slot_good : 1 ≤ k → k ≤ slots → 0 ≡ first_of (slot_tests card k)
+  slot_good h h' = by true (rw (le-leb 1 k h, le-leb k slots h'))
 
 both : (t u : Bool) → (t && u) ≡ true → (t ≡ true) × (u ≡ true)
 both true true e = (refl, refl)
@@ -57,5 +57,5 @@ module _ (s : ℕ) (f : T (not (eqb s 0))) (l : s ≤ slots) where
   pub in_book : s - 1 < slots
   in_book = omega (arith, at_least_one, l)
 
-  pub place-wide : s - 1 < 2 ^ 64
-  place-wide = omega (arith, in_book)
+  pub place_wide : s - 1 < 2 ^ 64
+  place_wide = omega (arith, in_book)

@@ -58,8 +58,8 @@ module _ (st : Station) (s : List ℕ) (st' : Station) (r : ℕ) (g : JoinsLent 
   joined_at : length s ≡ book_length → (r ≡ 0) × (st' ≡ site_joined st (book_from s))
   joined_at l = let e = same_test (length s) l in (g.answer ∙ ap (λ (t : Bool). pick t 0 2) e, g.station ∙ ap (λ (t : Bool). pick t (site_joined st (book_from s)) st) e)
 
-  not-joined : (length s ≡ book_length → ⊥) → (r ≡ 2) × (st' ≡ st)
-  not-joined l = let e = other_test (length s) l in (g.answer ∙ ap (λ (t : Bool). pick t 0 2) e, g.station ∙ ap (λ (t : Bool). pick t (site_joined st (book_from s)) st) e)
+  not_joined : (length s ≡ book_length → ⊥) → (r ≡ 2) × (st' ≡ st)
+  not_joined l = let e = other_test (length s) l in (g.answer ∙ ap (λ (t : Bool). pick t 0 2) e, g.station ∙ ap (λ (t : Bool). pick t (site_joined st (book_from s)) st) e)
 
 joined_book : (st : Station) (b : Book) (st' : Station) (r : ℕ) → IsBook b → JoinsLent st (book_bytes b) st' r → (r ≡ 0) × (st' ≡ site_joined st b)
 joined_book st b st' r ib g =
@@ -71,8 +71,8 @@ module _ (st : Station) (out out' : List ℕ) (r : ℕ) (g : SendsLent st out ou
   sent_at : length out ≡ book_length → (r ≡ 0) × (out' ≡ book_bytes st.book)
   sent_at l = let e = same_test (length out) l in (g.answer ∙ ap (λ (t : Bool). pick t 0 12) e, g.bytes ∙ ap (λ (t : Bool). pick t (book_bytes st.book) out) e)
 
-  not-sent : (length out ≡ book_length → ⊥) → (r ≡ 12) × (out' ≡ out)
-  not-sent l = let e = other_test (length out) l in (g.answer ∙ ap (λ (t : Bool). pick t 0 12) e, g.bytes ∙ ap (λ (t : Bool). pick t (book_bytes st.book) out) e)
+  not_sent : (length out ≡ book_length → ⊥) → (r ≡ 12) × (out' ≡ out)
+  not_sent l = let e = other_test (length out) l in (g.answer ∙ ap (λ (t : Bool). pick t 0 12) e, g.bytes ∙ ap (λ (t : Bool). pick t (book_bytes st.book) out) e)
 
 sent_whole : (st : Station) (out out' : List ℕ) (r : ℕ) → length st.book.entries ≡ slots → length out ≡ book_length → SendsLent st out out' r
     → (r ≡ 0) × ((out' ≡ book_bytes st.book) × Sent out')
@@ -95,7 +95,7 @@ laws = record {
   resets = resets_on;
   joins = joins_on;
   any_book = joined_book;
-  shape = λ st s st' r differs g. not-joined st s st' r g differs;
-  room = λ st out out' r differs g. not-sent st out out' r g differs;
+  shape = λ st s st' r differs g. not_joined st s st' r g differs;
+  room = λ st out out' r differs g. not_sent st out out' r g differs;
   sent = sent_whole;
 }

@@ -22,7 +22,7 @@ use Rattle.channel.specs.declared.Row.{Row}
 use Rattle.channel.specs.Row.{empty_row}
 use Rattle.station.specs.Station.{channels, fresh_station}
 use Rattle.wire.specs.Bytes.{entry_from, entries_from}
-use Rattle.wire.proofs.Begun.{Begun, begun-none, begun-set, begun_all}
+use Rattle.wire.proofs.Begun.{Begun, begun_none, begun_set, begun_all}
 use Rattle.sites.specs.Joining.{kept_of, join_books}
 use Rattle.sites.proofs.Slots.{Passed, begins, goes_on, ends}
 
@@ -35,10 +35,10 @@ abbrev pub Emptied : ℕ → List Row → Type 0
 Emptied i rs = Begun channels i rs (replicate i empty_row)
 
 pub emptied_none : (rs : List Row) → length rs ≡ channels → Emptied 0 rs
-emptied_none rs l = begun-none rs l
+emptied_none rs l = begun_none rs l
 
 pub emptied_more : (i : ℕ) (rs : List Row) (r : Row) → i < channels → r ≡ empty_row → Emptied i rs → Emptied (i + 1) (set rs i r)
-emptied_more i rs r l e b = rw (add-one i, replicate_more i empty_row, e) (begun-set empty_row l b)
+emptied_more i rs r l e b = rw (add-one i, replicate_more i empty_row, e) (begun_set empty_row l b)
 
 -- a station of empty rows, an empty book and a summary of nothing
 abbrev pub no_summary : Summary

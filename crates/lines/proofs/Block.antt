@@ -14,7 +14,7 @@ use Rattle.lines.specs.declared.Listed.{Listed}
 use Rattle.lines.specs.declared.Printed.{Printed}
 use Rattle.lines.specs.Line.{Lists}
 use Rattle.lines.specs.Text.{line_bytes, line_text, left_over, record_at, station_at, lines_at, listing, Prints}
-use Rattle.lines.proofs.Tells.{line-is}
+use Rattle.lines.proofs.Tells.{line_is}
 use Rattle.digits.proofs.Pieces.{puts_as, puts_more, puts_none}
 
 -- the bytes of record i, as the code takes them
@@ -44,16 +44,16 @@ module _ {st : Station} {input text₀ : List ℕ} where
       rw add-one
       (record {
         station = n.station;
-        lines = puts_more s.lines (puts_as (ap line_text (line-is _ _ r n)) p);
+        lines = puts_more s.lines (puts_as (ap line_text (line_is _ _ r n)) p);
         bound = omega (arith, s.bound);
       })
 
   -- all of them, and the bytes left over
-  pub all-printed : {text text' : List ℕ} {after : Station} {end i : ℕ} (end' : ℕ) → SoFar st input text₀ text after end i → i ≡ length input / 16
+  pub all_printed : {text text' : List ℕ} {after : Station} {end i : ℕ} (end' : ℕ) → SoFar st input text₀ text after end i → i ≡ length input / 16
       → Puts text end (left_over (length input % 16)) text' end' → end' ≤ length text₀
       → Prints st input text₀ (record { station = after; end = end' }) text'
   unfolding listing
-  all-printed {after = after} {i = i} end' s e p w =
+  all_printed {after = after} {i = i} end' s e p w =
       let q = puts_as (ap (λ (k : ℕ). lines_at st input k ++ left_over (length input % 16)) e) (puts_more s.lines p) in
       record { station = s.station ∙ ap (station_at st input) e; past = q.past ∙ zero-add _; written = q.written; within = w }
 

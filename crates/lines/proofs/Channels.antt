@@ -18,13 +18,13 @@ use Rattle.fields.specs.Sixteen.{channel_in, epoch_in, symbols_in}
 use Rattle.station.specs.declared.Station.{Station}
 use Rattle.station.specs.declared.Gate.TheVariants.{Shut}
 use Rattle.station.specs.Station.{owner_of, held_at, Enters, station_tests, station_after}
-use Rattle.station.proofs.Served.{shut-says, enters_no_channel, enters_not_owner}
+use Rattle.station.proofs.Served.{shut_says_lem, enters_no_channel, enters_not_owner}
 use Rattle.station.proofs.EveryHistory.{offer_answers}
 use Rattle.station.proofs.Demands.{demands}
 use Rattle.lines.specs.declared.Line.{Line}
 use Rattle.lines.specs.Line.{speaks_for, number_for, repaired_for, m_for, polarity_for, line_for}
 use Rattle.lines.specs.Channels.{zeros_after, EveryChannel}
-use Rattle.lines.proofs.Tells.{line-is}
+use Rattle.lines.proofs.Tells.{line_is}
 
 module _ (st : Station) (rec : List ℕ) where
   abbrev c : ℕ
@@ -35,7 +35,7 @@ module _ (st : Station) (rec : List ℕ) where
   number_shut why e =
       let ts = offer_tests (held_at st c) (epoch_in rec) (symbols_in rec) in
       sym (first_said (station_tests st speaks_for c (epoch_in rec) (symbols_in rec)) [])
-      ∙ ap (λ (l : List ℕ). get_or l 0 0) (shut-says speaks_for c ts [] e.0 ∙ sym e.1)
+      ∙ ap (λ (l : List ℕ). get_or l 0 0) (shut_says_lem speaks_for c ts [] e.0 ∙ sym e.1)
 
   line_by : ℕ → Line
   line_by k =
@@ -54,13 +54,13 @@ module _ (st : Station) (rec : List ℕ) where
   none : 47 < c → Enters speaks_for c (Shut Channel)
   none h = enters_no_channel speaks_for c refl h
 
-  told-15 : 24 ≤ c → c ≤ 47 → line_for st rec ≡ zeros_after 15 rec
+  told_15 : 24 ≤ c → c ≤ 47 → line_for st rec ≡ zeros_after 15 rec
   unfolding line_for line_by
-  told-15 h k = ap line_by (number_shut Owner (others h k))
+  told_15 h k = ap line_by (number_shut Owner (others h k))
 
-  told-1 : 47 < c → line_for st rec ≡ zeros_after 1 rec
+  told_1 : 47 < c → line_for st rec ≡ zeros_after 1 rec
   unfolding line_for line_by
-  told-1 h = ap line_by (number_shut Channel (none h))
+  told_1 h = ap line_by (number_shut Channel (none h))
 
   stays : 24 ≤ c → station_after st speaks_for c (epoch_in rec) (symbols_in rec) ≡ st
   stays h = by (leb c 47) refl
@@ -77,7 +77,7 @@ module _ (st : Station) (rec : List ℕ) where
 pub not_card_one : EveryChannel
 not_card_one st rec r l =
     record {
-      owner = λ h k. line-is st rec r l ∙ told-15 st rec h k;
-      channel = λ h. line-is st rec r l ∙ told-1 st rec h;
+      owner = λ h k. line_is st rec r l ∙ told_15 st rec h k;
+      channel = λ h. line_is st rec r l ∙ told_1 st rec h;
       station = λ h. l.station ∙ stays st rec h;
     }

@@ -23,42 +23,42 @@ text_of st rec = line_text (line_for st rec)
 -- a first block of n whole records, and the rest
 module _ (st : Station) (block rest : List ℕ) (n : ℕ) (whole : length block ≡ n * 16) where
   -- ---- the records of the block
-  record-of-block : (k : ℕ) → suc k ≤ n → record_at (block ++ rest) k ≡ record_at block k
-  record-of-block k h =
+  record_of_block : (k : ℕ) → suc k ≤ n → record_at (block ++ rest) k ≡ record_at block k
+  record_of_block k h =
       let l : k * 16 ≤ length block = omega arith in
       let m : 16 ≤ length (drop (k * 16) block) = simp length-drop (omega arith) in
       ap (take 16) (drop-append-le (k * 16) block rest l) ∙ take-append-le 16 (drop (k * 16) block) rest m
 
-  station-of-block : (k : ℕ) → k ≤ n → station_at st (block ++ rest) k ≡ station_at st block k
+  station_of_block : (k : ℕ) → k ≤ n → station_at st (block ++ rest) k ≡ station_at st block k
   unfolding station_at
-  station-of-block zero h = refl
-  station-of-block (suc k) h = ap₂ offered (station-of-block k (omega arith)) (record-of-block k h)
+  station_of_block zero h = refl
+  station_of_block (suc k) h = ap₂ offered (station_of_block k (omega arith)) (record_of_block k h)
 
-  lines-of-block : (k : ℕ) → k ≤ n → lines_at st (block ++ rest) k ≡ lines_at st block k
+  lines_of_block : (k : ℕ) → k ≤ n → lines_at st (block ++ rest) k ≡ lines_at st block k
   unfolding lines_at
-  lines-of-block zero h = refl
-  lines-of-block (suc k) h = ap₂ ◌++◌ (lines-of-block k (omega arith)) (ap₂ text_of (station-of-block k (omega arith)) (record-of-block k h))
+  lines_of_block zero h = refl
+  lines_of_block (suc k) h = ap₂ ◌++◌ (lines_of_block k (omega arith)) (ap₂ text_of (station_of_block k (omega arith)) (record_of_block k h))
 
   -- ---- the records of the rest
   abbrev after : Station
   after = station_at st block n
 
-  record-of-rest : (k : ℕ) → record_at (block ++ rest) (n + k) ≡ record_at rest k
-  record-of-rest k =
+  record_of_rest : (k : ℕ) → record_at (block ++ rest) (n + k) ≡ record_at rest k
+  record_of_rest k =
       let e : (n + k) * 16 ≡ length block + k * 16 = omega arith in
       ap (take 16) (ap (λ (j : ℕ). drop j (block ++ rest)) e ∙ drop-append-add block rest (k * 16))
 
-  station-of-rest : (k : ℕ) → station_at st (block ++ rest) (n + k) ≡ station_at after rest k
+  station_of_rest : (k : ℕ) → station_at st (block ++ rest) (n + k) ≡ station_at after rest k
   unfolding station_at
-  station-of-rest zero = ap (station_at st (block ++ rest)) (add-zero n) ∙ station-of-block n (omega arith)
-  station-of-rest (suc k) = ap (station_at st (block ++ rest)) (add-suc n k) ∙ ap₂ offered (station-of-rest k) (record-of-rest k)
+  station_of_rest zero = ap (station_at st (block ++ rest)) (add-zero n) ∙ station_of_block n (omega arith)
+  station_of_rest (suc k) = ap (station_at st (block ++ rest)) (add-suc n k) ∙ ap₂ offered (station_of_rest k) (record_of_rest k)
 
-  lines-of-rest : (k : ℕ) → lines_at st (block ++ rest) (n + k) ≡ lines_at st block n ++ lines_at after rest k
+  lines_of_rest : (k : ℕ) → lines_at st (block ++ rest) (n + k) ≡ lines_at st block n ++ lines_at after rest k
   unfolding lines_at
-  lines-of-rest zero = ap (lines_at st (block ++ rest)) (add-zero n) ∙ lines-of-block n (omega arith) ∙ sym (append-nil (lines_at st block n))
-  lines-of-rest (suc k) =
+  lines_of_rest zero = ap (lines_at st (block ++ rest)) (add-zero n) ∙ lines_of_block n (omega arith) ∙ sym (append-nil (lines_at st block n))
+  lines_of_rest (suc k) =
       ap (lines_at st (block ++ rest)) (add-suc n k)
-      ∙ ap₂ ◌++◌ (lines-of-rest k) (ap₂ text_of (station-of-rest k) (record-of-rest k))
+      ∙ ap₂ ◌++◌ (lines_of_rest k) (ap₂ text_of (station_of_rest k) (record_of_rest k))
       ∙ append_assoc (lines_at st block n) (lines_at after rest k) _
 
   -- ---- the whole
@@ -69,22 +69,22 @@ module _ (st : Station) (block rest : List ℕ) (n : ℕ) (whole : length block 
   left = simp length-append (omega arith)
 
   -- THE STATION of the whole input is that of the rest after that of the block
-  pub station-in-blocks : station_at st (block ++ rest) (length (block ++ rest) / 16) ≡ station_at after rest (length rest / 16)
-  station-in-blocks = ap (station_at st (block ++ rest)) many ∙ station-of-rest (length rest / 16)
+  pub station_in_blocks : station_at st (block ++ rest) (length (block ++ rest) / 16) ≡ station_at after rest (length rest / 16)
+  station_in_blocks = ap (station_at st (block ++ rest)) many ∙ station_of_rest (length rest / 16)
 
   -- nothing is left over of the block
-  listing-of-block : listing st block ≡ lines_at st block n
+  listing_of_block : listing st block ≡ lines_at st block n
   unfolding listing left_over
-  listing-of-block =
+  listing_of_block =
       let e : length block / 16 ≡ n = omega arith in
       let z : length block % 16 ≡ 0 = omega arith in
       ap₂ (λ (i j : ℕ). lines_at st block i ++ left_over j) e z ∙ append-nil (lines_at st block n)
 
   -- THE LISTING of the whole input is the block's and then the rest's
-  pub listing-in-blocks : listing st (block ++ rest) ≡ listing st block ++ listing after rest
+  pub listing_in_blocks : listing st (block ++ rest) ≡ listing st block ++ listing after rest
   unfolding listing
-  listing-in-blocks =
+  listing_in_blocks =
       ap₂ (λ (i j : ℕ). lines_at st (block ++ rest) i ++ left_over j) many left
-      ∙ ap (λ (l : List ℕ). l ++ left_over (length rest % 16)) (lines-of-rest (length rest / 16))
+      ∙ ap (λ (l : List ℕ). l ++ left_over (length rest % 16)) (lines_of_rest (length rest / 16))
       ∙ append_assoc (lines_at st block n) (lines_at after rest (length rest / 16)) (left_over (length rest % 16))
-      ∙ ap (λ (l : List ℕ). l ++ listing after rest) (sym listing-of-block)
+      ∙ ap (λ (l : List ℕ). l ++ listing after rest) (sym listing_of_block)

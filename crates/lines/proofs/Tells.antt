@@ -19,7 +19,7 @@ use Rattle.strings.specs.Number.{number_of}
 use Rattle.strings.proofs.Answer.{refusal_known}
 use Rattle.strings.specs.Numbers.{refusal_paper, Test, first_of, place_of, said_by, answer_of}
 use Rattle.strings.specs.Calls.{sound_tests}
-use Rattle.strings.proofs.Tests.{all_of, first-of, first_by}
+use Rattle.strings.proofs.Tests.{all_of, first_of_lem, first_by}
 use Rattle.words.specs.Calls.{number_in}
 use Rattle.channel.specs.declared.News.{News}
 use Rattle.channel.specs.declared.Answer.{Answer}
@@ -103,9 +103,9 @@ module _ (st : Station) (c epoch : ℕ) (s : List ℕ) where
   abbrev told : ℕ → Seen
   told k = seen (repaired_for k s) (m_for k s) (polarity_for k s)
 
-  seen-taken : (m : ℕ) (v : Verdict) (w : News) (p : Polarity) (k : ℕ) → answer_paper (Taken m v w p) ≡ said_by k (place_of tests) (told_in st c epoch s)
+  seen_taken : (m : ℕ) (v : Verdict) (w : News) (p : Polarity) (k : ℕ) → answer_paper (Taken m v w p) ≡ said_by k (place_of tests) (told_in st c epoch s)
       → seen (bit_in v) m (polarity_number p) ≡ told k
-  seen-taken m v w p zero e =
+  seen_taken m v w p zero e =
       let n = whole_of s in
       let x = news_of (held_at st c) epoch n in
       let b : bit_in v ≡ bit_in (verdict_in s) = sym (told_bit m v w _) ∙ ap (λ (l : List ℕ). get_or l 3 0) e ∙ told_bit (number_in n) (verdict_in s) x _ in
@@ -114,7 +114,7 @@ module _ (st : Station) (c epoch : ℕ) (s : List ℕ) where
       sym (told_last m v w _) ∙ ap (λ (l : List ℕ). get_or l 5 0) e ∙ told_last (number_in n) (verdict_in s) x _
       in
       ap₂ (λ (y z : ℕ). seen y z (polarity_number p)) b i ∙ ap (seen (bit_in (verdict_in s)) (number_in n)) f
-  seen-taken m v w p (suc k) e = let z : ◌≡◌ {A = ℕ} 0 (suc k) = ap (λ (l : List ℕ). get_or l 0 0) e in absurd (omega arith)
+  seen_taken m v w p (suc k) e = let z : ◌≡◌ {A = ℕ} 0 (suc k) = ap (λ (l : List ℕ). get_or l 0 0) e in absurd (omega arith)
 
   -- those before the place: the gate, and what is heard of the bytes
   abbrev first : List Test
@@ -123,57 +123,57 @@ module _ (st : Station) (c epoch : ℕ) (s : List ℕ) where
   abbrev after : List Test
   after = place_tests (held_at st c) epoch (whole_of s)
 
-  first-held : T (all_of held_back first)
+  first_held : T (all_of held_back first)
   unfolding sound_tests
-  first-held = tt
+  first_held = tt
 
   -- EARLY and those after it
-  later-told : T (tells_both (first_of (drop 1 after)))
-  later-told = first-of tells_both (drop 1 after) tt tt
+  later_told : T (tells_both (first_of (drop 1 after)))
+  later_told = first_of_lem tells_both (drop 1 after) tt tt
 
   -- NUMBER, whose m is 0, or one of those
-  place-seen : (k : ℕ) → k ≡ first_of after → Again k true (bit_in (verdict_in s)) (number_in (whole_of s))
-  place-seen k e = by (eqb (number_in (whole_of s)) 0) refl e
+  place_seen : (k : ℕ) → k ≡ first_of after → Again k true (bit_in (verdict_in s)) (number_in (whole_of s))
+  place_seen k e = by (eqb (number_in (whole_of s)) 0) refl e
     where
       by : (t : Bool) → eqb (number_in (whole_of s)) 0 ≡ t → k ≡ pick t 5 (first_of (drop 1 after)) → Again k true (bit_in (verdict_in s)) (number_in (whole_of s))
       by true z q = rw q (ap (λ (m : ℕ). seen (bit_in (verdict_in s)) m 0) (eqb-true (number_in (whole_of s)) 0 z))
       by false z q =
           rw q
-          (tells_both_lem (is_one_of before_verdict (first_of (drop 1 after))) (is_one_of before_number (first_of (drop 1 after))) (bit_in (verdict_in s)) (number_in (whole_of s)) later-told)
+          (tells_both_lem (is_one_of before_verdict (first_of (drop 1 after))) (is_one_of before_number (first_of (drop 1 after))) (bit_in (verdict_in s)) (number_in (whole_of s)) later_told)
 
   -- whichever test fits first
-  seen-again : Again (first_of tests) (is_heard s) (bit_in (verdict_in s)) (number_in (whole_of s))
-  seen-again =
+  seen_again : Again (first_of tests) (is_heard s) (bit_in (verdict_in s)) (number_in (whole_of s))
+  seen_again =
       let k = first_of tests in
       let bit = bit_in (verdict_in s) in
       let m = number_in (whole_of s) in
       ⊎_elim (λ (h : T (held_back k)). held_back_lem (is_one_of before_verdict k) (is_one_of before_number k) (is_heard s) bit m h)
       (λ (o : (first_of first ≡ 0) × (k ≡ first_of after)).
       let heard = eq-eqb (first_of (hear_tests s)) 0 (past_gate speaks_for c (hear_tests s) o.0) in
-      subst (λ (t : Bool). Again k t bit m) (sym heard) (place-seen k o.1)) (first_by held_back first after first-held)
+      subst (λ (t : Bool). Again k t bit m) (sym heard) (place_seen k o.1)) (first_by held_back first after first_held)
 
   -- a refusal's number is not 0, so the line tells no polarity
   none_told : (q : Refusal) → get_or (refusal_paper q) 0 0 ≡ first_of tests → 0 ≡ polarity_for (first_of tests) s
   none_told q e = sym (ap (λ (t : Bool). pick t (first_symbol (number_of s)) 0) (ap (λ (k : ℕ). eqb k 0) (sym e) ∙ (refusal_known q).1))
 
-  seen-refused : (q : Refusal) → get_or (refusal_paper q) 0 0 ≡ first_of tests → seen_by (Refused q) s ≡ told (first_of tests)
+  seen_refused : (q : Refusal) → get_or (refusal_paper q) 0 0 ≡ first_of tests → seen_by (Refused q) s ≡ told (first_of tests)
   unfolding seen_by seen_in
-  seen-refused q e =
-      ap (λ (t : Bool). pick t (seen 0 0 0) (seen_in s)) (comes_before q ∙ ap (is_one_of before_verdict) e) ∙ seen-again
+  seen_refused q e =
+      ap (λ (t : Bool). pick t (seen 0 0 0) (seen_in s)) (comes_before q ∙ ap (is_one_of before_verdict) e) ∙ seen_again
       ∙ ap (seen (repaired_for (first_of tests) s) (m_for (first_of tests) s)) (none_told q e)
 
   -- an answer's number is that of the first test that fits
   pub number_is : (r : Stepped) → OffersTo st speaks_for c epoch s r → get_or (answer_paper r.answer) 0 0 ≡ first_of tests
   number_is r o = ap (λ (l : List ℕ). get_or l 0 0) o.answer ∙ first_said tests (told_in st c epoch s)
 
-  pub seen-is : (r : Stepped) → OffersTo st speaks_for c epoch s r → seen_by r.answer s ≡ told (first_of tests)
+  pub seen_is : (r : Stepped) → OffersTo st speaks_for c epoch s r → seen_by r.answer s ≡ told (first_of tests)
   unfolding seen_by
-  seen-is r o = by r.answer o.answer (number_is r o)
+  seen_is r o = by r.answer o.answer (number_is r o)
     where
       by : (a : Answer) → answer_paper a ≡ answer_of tests (told_in st c epoch s) → get_or (answer_paper a) 0 0 ≡ first_of tests
           → seen_by a s ≡ told (first_of tests)
-      by (Taken m v w p) e n = seen-taken m v w p (first_of tests) e
-      by (Refused q) e n = seen-refused q n
+      by (Taken m v w p) e n = seen_taken m v w p (first_of tests) e
+      by (Refused q) e n = seen_refused q n
 
 -- ---- the line of a record
 -- a line is known by its six numbers
@@ -191,12 +191,12 @@ module _ (st : Station) (rec : List ℕ) where
   abbrev line_of : ℕ → ℕ → ℕ → Seen → Line
   line_of c epoch number x = record { channel = c; epoch = epoch; number = number; repaired = x.repaired; m = x.m; polarity = x.polarity }
 
-  pub lists-by : (c epoch number : ℕ) (s : List ℕ) (r : Stepped) (x : Seen) → c ≡ channel_in rec → epoch ≡ epoch_in rec → s ≡ symbols_in rec
+  pub lists_by : (c epoch number : ℕ) (s : List ℕ) (r : Stepped) (x : Seen) → c ≡ channel_in rec → epoch ≡ epoch_in rec → s ≡ symbols_in rec
       → OffersTo st speaks_for c epoch s r → number ≡ get_or (answer_paper r.answer) 0 0 → x ≡ seen_by r.answer s
       → Lists st rec (record { station = r.station; line = line_of c epoch number x })
-  lists-by c epoch number s r x d e f o n y =
+  lists_by c epoch number s r x d e f o n y =
       let o : OffersTo st speaks_for (channel_in rec) (epoch_in rec) (symbols_in rec) r = rw (← d, ← e, ← f) o in
-      let z = y ∙ ap (seen_by r.answer) f ∙ seen-is st (channel_in rec) (epoch_in rec) (symbols_in rec) r o in
+      let z = y ∙ ap (seen_by r.answer) f ∙ seen_is st (channel_in rec) (epoch_in rec) (symbols_in rec) r o in
       record {
         channel = d;
         epoch = e;
@@ -208,12 +208,12 @@ module _ (st : Station) (rec : List ℕ) where
       }
 
   -- the whole line
-  pub line-is : (r : Listed) → Lists st rec r → r.line ≡ line_for st rec
+  pub line_is : (r : Listed) → Lists st rec r → r.line ≡ line_for st rec
   unfolding line_for
-  line-is r a = line_same r.line (line_for st rec) a.channel a.epoch a.number a.repaired a.m a.polarity
+  line_is r a = line_same r.line (line_for st rec) a.channel a.epoch a.number a.repaired a.m a.polarity
 
   -- NO SECOND LINE FITS, and no second station
-  pub lists-once : (r q : Listed) → Lists st rec r → Lists st rec q → r ≡ q
-  lists-once r q a b =
+  pub lists_once : (r q : Listed) → Lists st rec r → Lists st rec q → r ≡ q
+  lists_once r q a b =
       ap₂ (λ (x : Station) (l : Line). record { station = x; line = l }) (a.station ∙ sym b.station)
-      (line-is r a ∙ sym (line-is q b))
+      (line_is r a ∙ sym (line_is q b))

@@ -29,19 +29,19 @@ module _ (card : ℕ) (st : Station) (c : ℕ) where
   abbrev tests : List Test
   tests = record_tests st card c record_bytes
 
-  pub answered-first : is_answered card (ask_of st c) ≡ true → first_of tests ≡ 0
+  pub answered_first : is_answered card (ask_of st c) ≡ true → first_of tests ≡ 0
   unfolding is_answered
-  answered-first e = eqb-true (first_of tests) 0 e
+  answered_first e = eqb-true (first_of tests) 0 e
 
-  pub first-answered : first_of tests ≡ 0 → is_answered card (ask_of st c) ≡ true
+  pub first_answered : first_of tests ≡ 0 → is_answered card (ask_of st c) ≡ true
   unfolding is_answered
-  first-answered e = eq-eqb (first_of tests) 0 e
+  first_answered e = eq-eqb (first_of tests) 0 e
 
   -- ---- what the call says and leaves where it is not refused
-  pub said-written : (out : List ℕ) → length out ≡ record_bytes → is_answered card (ask_of st c) ≡ true → Writes st card c out (Written (n_at st c) (quarter_at st c)) (text_at st c)
+  pub said_written : (out : List ℕ) → length out ≡ record_bytes → is_answered card (ask_of st c) ≡ true → Writes st card c out (Written (n_at st c) (quarter_at st c)) (text_at st c)
   unfolding Writes
-  said-written out l e =
-      let z : first_of (record_tests st card c (length out)) ≡ 0 = ap (λ (room : ℕ). first_of (record_tests st card c room)) l ∙ answered-first e in
+  said_written out l e =
+      let z : first_of (record_tests st card c (length out)) ≡ 0 = ap (λ (room : ℕ). first_of (record_tests st card c room)) l ∙ answered_first e in
       record {
         answer = ap (λ (k : ℕ). said_by k (place_of (record_tests st card c (length out))) (n_at st c ∷ quarter_at st c ∷ [])) (sym z);
         output = ap (λ (k : ℕ). left_by k (text_at st c) out) (sym z);
@@ -54,16 +54,16 @@ module _ (card : ℕ) (st : Station) (c : ℕ) where
     pub epoch : quarter ≡ quarter_at st c
     pub lines : out' ≡ text_at st c
 
-  pub written-said : (n quarter : ℕ) (out out' : List ℕ) → length out ≡ record_bytes → Writes st card c out (Written n quarter) out' → Said n quarter out'
+  pub written_said : (n quarter : ℕ) (out out' : List ℕ) → length out ≡ record_bytes → Writes st card c out (Written n quarter) out' → Said n quarter out'
   unfolding Writes
-  written-said n quarter out out' l w = by (first_of (record_tests st card c (length out))) refl w.answer w.output
+  written_said n quarter out out' l w = by (first_of (record_tests st card c (length out))) refl w.answer w.output
     where
       by : (k : ℕ) → first_of (record_tests st card c (length out)) ≡ k
           → 0 ∷ n ∷ quarter ∷ [] ≡ said_by k (place_of (record_tests st card c (length out))) (n_at st c ∷ quarter_at st c ∷ [])
           → out' ≡ left_by k (text_at st c) out → Said n quarter out'
       by zero z p q =
           record {
-            answered = first-answered (ap (λ (room : ℕ). first_of (record_tests st card c room)) (sym l) ∙ z);
+            answered = first_answered (ap (λ (room : ℕ). first_of (record_tests st card c room)) (sym l) ∙ z);
             satellite = ap (λ (x : List ℕ). get_or x 1 0) p;
             epoch = ap (λ (x : List ℕ). get_or x 2 0) p;
             lines = q;
@@ -71,10 +71,10 @@ module _ (card : ℕ) (st : Station) (c : ℕ) where
       by (suc k) z p q = let b : ◌≡◌ {A = ℕ} 0 (suc k) = ap (λ (x : List ℕ). get_or x 0 0) p in absurd (omega arith)
 
   -- an answer that is not a record: it is refused
-  pub not-said : (r : Answer) (out out' : List ℕ) → length out ≡ record_bytes → eqb (get_or (answer_paper r) 0 0) 0 ≡ false → Writes st card c out r out'
+  pub not_said : (r : Answer) (out out' : List ℕ) → length out ≡ record_bytes → eqb (get_or (answer_paper r) 0 0) 0 ≡ false → Writes st card c out r out'
       → is_answered card (ask_of st c) ≡ false
   unfolding Writes is_answered
-  not-said r out out' l n w =
+  not_said r out out' l n w =
       let told = n_at st c ∷ quarter_at st c ∷ [] in
       let f : first_of tests ≡ get_or (answer_paper r) 0 0 =
       ap (λ (room : ℕ). first_of (record_tests st card c room)) (sym l) ∙ sym (first_said (record_tests st card c (length out)) told)
@@ -97,11 +97,11 @@ module _ (card : ℕ) (st : Station) (c : ℕ) where
     pub entry : has_entry st (n_at st c) ≡ true
     pub slot_least : 1 ≤ n_at st c
     pub slot_most : n_at st c ≤ 24
-    pub epoch-least : 1 ≤ quarter_at st c
+    pub epoch_least : 1 ≤ quarter_at st c
 
-  pub answered-parts : is_answered card (ask_of st c) ≡ true → Answered
-  answered-parts e =
-      let f = answered-first e in
+  pub answered_parts : is_answered card (ask_of st c) ≡ true → Answered
+  answered_parts e =
+      let f = answered_first e in
       let g = (past_first 15 (not (is_card card)) (test 1 (ltb last_channel c) ∷ owner) f).1 in
       let h = (past_first 0 (ltb last_channel c) owner g).0 in
       let p = past_gate card c own f in
@@ -120,5 +120,5 @@ module _ (card : ℕ) (st : Station) (c : ℕ) where
         entry = found.1;
         slot_least = leb-true 1 (n_at st c) ends.0;
         slot_most = leb-true (n_at st c) 24 ends.1;
-        epoch-least = omega (arith, leb-true 1 (nt_at st c) day.0);
+        epoch_least = omega (arith, leb-true 1 (nt_at st c) day.0);
       }

@@ -17,11 +17,11 @@ use Rattle.station.specs.Station.{channels, fresh_station}
 use Rattle.navigation.specs.Writes.{n_at, quarter_at}
 use Rattle.navfile.specs.File.{record_at, records_in, station_at, station_in, Ask, ask_of, asks_in, last_asks, satellite_of, epoch_of, is_answered, none_written, asks_of, records_of}
 use Rattle.navfile.specs.Laws.{InFile, NothingLost, NoneUnwritten, NeighboursDiffer, EachFromMoment}
-use Rattle.navfile.proofs.Answered.{answered-parts, said-written, written-said}
-use Rattle.navfile.proofs.Stays.{answered-stays, satellite-stays, epoch-stays}
+use Rattle.navfile.proofs.Answered.{answered_parts, said_written, written_said}
+use Rattle.navfile.proofs.Stays.{answered_stays, satellite_stays, epoch_stays}
 use Rattle.navfile.proofs.Due.{due_in}
 use Rattle.navfile.proofs.Found.{all_found, neighbours}
-use Rattle.navfile.proofs.Moments.{asks-have, asks-from, last-have, last-from}
+use Rattle.navfile.proofs.Moments.{asks_have, asks_from, last_have, last_from}
 
 module _ (card : ℕ) (input : List ℕ) where
   abbrev at : ℕ → Station
@@ -43,54 +43,54 @@ module _ (card : ℕ) (input : List ℕ) where
         ask = ask_of (at k) c;
         asked =
             Memᴰ.append_right (asks_in card fresh_station input)
-            (Memᴰ.cast (ap (λ (j : ℕ). ask_of (at j) c) e) (last-have (station_in card fresh_station input) channels c (answered-parts card (at k) c a).channel));
+            (Memᴰ.cast (ap (λ (j : ℕ). ask_of (at j) c) e) (last_have (station_in card fresh_station input) channels c (answered_parts card (at k) c a).channel));
         answered = a;
         satellite = refl;
         epoch = refl;
       }
 
   -- before the channel's next record
-  at-record : (k c : ℕ) → k < records_in input → channel_in (record_at input k) ≡ c → is_answered card (ask_of (at k) c) ≡ true → Later (n_at (at k) c) (quarter_at (at k) c)
+  at_record : (k c : ℕ) → k < records_in input → channel_in (record_at input k) ≡ c → is_answered card (ask_of (at k) c) ≡ true → Later (n_at (at k) c) (quarter_at (at k) c)
   unfolding asks_of
-  at-record k c h e a =
+  at_record k c h e a =
       record {
         ask = ask_of (at k) c;
         asked =
             Memᴰ.append_left (last_asks (station_in card fresh_station input))
-            (Memᴰ.cast (ap (ask_of (at k)) (sym e)) (asks-have card fresh_station input (records_in input) k h));
+            (Memᴰ.cast (ap (ask_of (at k)) (sym e)) (asks_have card fresh_station input (records_in input) k h));
         answered = a;
         satellite = refl;
         epoch = refl;
       }
 
-  later-as : {n m p q : ℕ} → n ≡ m → p ≡ q → Later n p → Later m q
-  later-as d e l = record { ask = l.ask; asked = l.asked; answered = l.answered; satellite = l.satellite ∙ d; epoch = l.epoch ∙ e }
+  later_as : {n m p q : ℕ} → n ≡ m → p ≡ q → Later n p → Later m q
+  later_as d e l = record { ask = l.ask; asked = l.asked; answered = l.answered; satellite = l.satellite ∙ d; epoch = l.epoch ∙ e }
 
   -- it stays until then
-  asked-later : (left k c : ℕ) → k + left ≡ records_in input → is_answered card (ask_of (at k) c) ≡ true → Later (n_at (at k) c) (quarter_at (at k) c)
+  asked_later : (left k c : ℕ) → k + left ≡ records_in input → is_answered card (ask_of (at k) c) ≡ true → Later (n_at (at k) c) (quarter_at (at k) c)
   unfolding station_at
-  asked-later zero k c e a = at_end k c (omega arith) a
-  asked-later (suc left) k c e a = by (eqb (channel_in (record_at input k)) c) refl (λ b. asked-later left (suc k) c (omega arith) b)
+  asked_later zero k c e a = at_end k c (omega arith) a
+  asked_later (suc left) k c e a = by (eqb (channel_in (record_at input k)) c) refl (λ b. asked_later left (suc k) c (omega arith) b)
     where
       by : (t : Bool) → eqb (channel_in (record_at input k)) c ≡ t
           → (is_answered card (ask_of (at (suc k)) c) ≡ true → Later (n_at (at (suc k)) c) (quarter_at (at (suc k)) c))
           → Later (n_at (at k) c) (quarter_at (at k) c)
-      by true q ih = at-record k c (omega arith) (eqb-true (channel_in (record_at input k)) c q) a
+      by true q ih = at_record k c (omega arith) (eqb-true (channel_in (record_at input k)) c q) a
       by false q ih =
           let n : c ≡ channel_in (record_at input k) → ⊥ = λ x. eqb-false (channel_in (record_at input k)) c q (sym x) in
           let r = record_at input k in
-          later-as (satellite-stays (at k) card (channel_in r) (epoch_in r) (symbols_in r) c n) (epoch-stays (at k) card (channel_in r) (epoch_in r) (symbols_in r) c n)
-          (ih (answered-stays (at k) card (channel_in r) (epoch_in r) (symbols_in r) c n a))
+          later_as (satellite_stays (at k) card (channel_in r) (epoch_in r) (symbols_in r) c n) (epoch_stays (at k) card (channel_in r) (epoch_in r) (symbols_in r) c n)
+          (ih (answered_stays (at k) card (channel_in r) (epoch_in r) (symbols_in r) c n a))
 
   -- and is written, or one like it is
-  in-file : {n quarter : ℕ} → Later n quarter → InFile card input n quarter
+  in_file : {n quarter : ℕ} → Later n quarter → InFile card input n quarter
   unfolding records_of
-  in-file l =
+  in_file l =
       let f = all_found card l.ask l.answered (asks_of card input) l.asked in
       record { ask = f.ask; is_written = f.among; satellite = f.satellite ∙ l.satellite; epoch = f.epoch ∙ l.epoch }
 
 pub nothing_lost : NothingLost
-nothing_lost card input k c h a = in-file card input (asked-later card input (left (records_in input) k h).0 k c (left (records_in input) k h).1 a)
+nothing_lost card input k c h a = in_file card input (asked_later card input (left (records_in input) k h).0 k c (left (records_in input) k h).1 a)
   where
     left : (m j : ℕ) → j ≤ m → (d : ℕ) × (j + d ≡ m)
     left m zero l = (m, omega arith)
@@ -99,7 +99,7 @@ nothing_lost card input k c h a = in-file card input (asked-later card input (le
 
 pub none_unwritten : NoneUnwritten
 none_unwritten card input k c n quarter out out' h l w =
-    let s = written-said card (station_at card fresh_station input k) c n quarter out out' l w in
+    let s = written_said card (station_at card fresh_station input k) c n quarter out out' l w in
     let f = nothing_lost card input k c h s.answered in
     record { ask = f.ask; is_written = f.is_written; satellite = f.satellite ∙ sym s.satellite; epoch = f.epoch ∙ sym s.epoch }
 
@@ -113,9 +113,9 @@ unfolding asks_of
 asked_at card input a m =
     ⊎_elim
     (λ (n : Memᴰ a (asks_in card fresh_station input)).
-    let b = asks-from card fresh_station input (records_in input) a n in
+    let b = asks_from card fresh_station input (records_in input) a n in
     (b.j, (omega (arith, b.within), ap (λ (x : Ask). x.station) b.is)))
-    (λ (n : Memᴰ a (last_asks (station_in card fresh_station input))). (records_in input, (omega arith, last-from (station_in card fresh_station input) _ a n)))
+    (λ (n : Memᴰ a (last_asks (station_in card fresh_station input))). (records_in input, (omega arith, last_from (station_in card fresh_station input) _ a n)))
     (Memᴰ.append_cases (asks_in card fresh_station input) m)
 
 pub each_from_moment : EachFromMoment
@@ -123,4 +123,4 @@ unfolding records_of
 each_from_moment card input a m =
     let d = due_in card none_written (asks_of card input) a m in
     let p = asked_at card input a d.0 in
-    record { k = p.0; within = p.1.0; moment = p.1.1; call = λ out l. said-written card a.station a.channel out l d.1 }
+    record { k = p.0; within = p.1.0; moment = p.1.1; call = λ out l. said_written card a.station a.channel out l d.1 }

@@ -21,44 +21,44 @@ less (suc i) (suc m) l n = let f = less i m (omega arith) (λ q. n (ap suc q)) i
 
 module _ (card : ℕ) (st : Station) (input : List ℕ) where
   -- the ask before record j
-  abbrev pub askAt : ℕ → Ask
-  askAt j = ask_before card (station_at card st input j) (record_at input j)
+  abbrev pub ask_at : ℕ → Ask
+  ask_at j = ask_before card (station_at card st input j) (record_at input j)
 
-  pub asks-have : (k j : ℕ) → j < k → Memᴰ (askAt j) (asks_at card st input k)
+  pub asks_have : (k j : ℕ) → j < k → Memᴰ (ask_at j) (asks_at card st input k)
   unfolding asks_at
-  asks-have zero j h = absurd (omega arith)
-  asks-have (suc k) j h = by (eqb j k) refl (asks-have k j)
+  asks_have zero j h = absurd (omega arith)
+  asks_have (suc k) j h = by (eqb j k) refl (asks_have k j)
     where
-      by : (t : Bool) → eqb j k ≡ t → (j < k → Memᴰ (askAt j) (asks_at card st input k)) → Memᴰ (askAt j) (asks_at card st input k ++ (askAt k ∷ []))
-      by true e ih = mathlib.Core.List.Memᴰ.append_right (asks_at card st input k) (mathlib.Core.List.Memᴰ.head (ap askAt (eqb-true j k e)))
-      by false e ih = let n : j ≡ k → ⊥ = eqb-false j k e in mathlib.Core.List.Memᴰ.append_left (askAt k ∷ []) (ih (less j k h n))
+      by : (t : Bool) → eqb j k ≡ t → (j < k → Memᴰ (ask_at j) (asks_at card st input k)) → Memᴰ (ask_at j) (asks_at card st input k ++ (ask_at k ∷ []))
+      by true e ih = mathlib.Core.List.Memᴰ.append_right (asks_at card st input k) (mathlib.Core.List.Memᴰ.head (ap ask_at (eqb-true j k e)))
+      by false e ih = let n : j ≡ k → ⊥ = eqb-false j k e in mathlib.Core.List.Memᴰ.append_left (ask_at k ∷ []) (ih (less j k h n))
 
   pub record Before (k : ℕ) (a : Ask) : Type 0 where
     pub j : ℕ
     pub within : j < k
-    pub is : a ≡ askAt j
+    pub is : a ≡ ask_at j
 
-  pub asks-from : (k : ℕ) (a : Ask) → Memᴰ a (asks_at card st input k) → Before k a
+  pub asks_from : (k : ℕ) (a : Ask) → Memᴰ a (asks_at card st input k) → Before k a
   unfolding asks_at
-  asks-from zero a m = absurd (mathlib.Core.List.Memᴰ.not-nil m)
-  asks-from (suc k) a m =
-      ⊎_elim (λ (n : Memᴰ a (asks_at card st input k)). let b = asks-from k a n in record { j = b.j; within = omega (arith, b.within); is = b.is })
-      (λ (n : Memᴰ a (askAt k ∷ [])). record { j = k; within = omega arith; is = mathlib.Core.List.Memᴰ.eq_of_singleton n })
+  asks_from zero a m = absurd (mathlib.Core.List.Memᴰ.not-nil m)
+  asks_from (suc k) a m =
+      ⊎_elim (λ (n : Memᴰ a (asks_at card st input k)). let b = asks_from k a n in record { j = b.j; within = omega (arith, b.within); is = b.is })
+      (λ (n : Memᴰ a (ask_at k ∷ [])). record { j = k; within = omega arith; is = mathlib.Core.List.Memᴰ.eq_of_singleton n })
       (mathlib.Core.List.Memᴰ.append_cases (asks_at card st input k) m)
 
 module _ (st : Station) where
-  pub last-have : (k c : ℕ) → c < k → Memᴰ (ask_of st c) (asks_up_to st k)
+  pub last_have : (k c : ℕ) → c < k → Memᴰ (ask_of st c) (asks_up_to st k)
   unfolding asks_up_to
-  last-have zero c h = absurd (omega arith)
-  last-have (suc k) c h = by (eqb c k) refl (last-have k c)
+  last_have zero c h = absurd (omega arith)
+  last_have (suc k) c h = by (eqb c k) refl (last_have k c)
     where
       by : (t : Bool) → eqb c k ≡ t → (c < k → Memᴰ (ask_of st c) (asks_up_to st k)) → Memᴰ (ask_of st c) (asks_up_to st k ++ (ask_of st k ∷ []))
       by true e ih = mathlib.Core.List.Memᴰ.append_right (asks_up_to st k) (mathlib.Core.List.Memᴰ.head (ap (ask_of st) (eqb-true c k e)))
       by false e ih = mathlib.Core.List.Memᴰ.append_left (ask_of st k ∷ []) (ih (less c k h (eqb-false c k e)))
 
-  pub last-from : (k : ℕ) (a : Ask) → Memᴰ a (asks_up_to st k) → a.station ≡ st
+  pub last_from : (k : ℕ) (a : Ask) → Memᴰ a (asks_up_to st k) → a.station ≡ st
   unfolding asks_up_to
-  last-from zero a m = absurd (mathlib.Core.List.Memᴰ.not-nil m)
-  last-from (suc k) a m =
-      ⊎_elim (λ (n : Memᴰ a (asks_up_to st k)). last-from k a n) (λ (n : Memᴰ a (ask_of st k ∷ [])). ap (λ (x : Ask). x.station) (mathlib.Core.List.Memᴰ.eq_of_singleton n))
+  last_from zero a m = absurd (mathlib.Core.List.Memᴰ.not-nil m)
+  last_from (suc k) a m =
+      ⊎_elim (λ (n : Memᴰ a (asks_up_to st k)). last_from k a n) (λ (n : Memᴰ a (ask_of st k ∷ [])). ap (λ (x : Ask). x.station) (mathlib.Core.List.Memᴰ.eq_of_singleton n))
       (mathlib.Core.List.Memᴰ.append_cases (asks_up_to st k) m)

@@ -23,9 +23,9 @@ use Rattle.navigation.specs.Writes.{words_at, n_at, record_bytes, text_at}
 use Rattle.navfile.specs.Header.{header_bytes, header, version_line, program_line, end_line}
 use Rattle.navfile.specs.File.{station_at, Ask, lines_of, is_answered, none_written, texts_of, asks_at, asks_of, records_of, file_of}
 use Rattle.navfile.specs.Laws.{EveryFile, EmptyCapture}
-use Rattle.navfile.proofs.Answered.{answered-parts}
+use Rattle.navfile.proofs.Answered.{answered_parts}
 use Rattle.navfile.proofs.Due.{due_in}
-use Rattle.navfile.proofs.Moments.{last-from}
+use Rattle.navfile.proofs.Moments.{last_from}
 
 -- ---- the header
 pub header_long : length header ≡ header_bytes
@@ -86,7 +86,7 @@ fresh_row c h = get_or-replicate channels c empty_row no_row h
 
 fresh_none : (card : ℕ) (a : Ask) → a.station ≡ fresh_station → is_answered card a ≡ true → ⊥
 fresh_none card a e q =
-    let p = answered-parts card a.station a.channel q in
+    let p = answered_parts card a.station a.channel q in
     let r : row_at a.station a.channel ≡ empty_row = ap (λ st. row_at st a.channel) e ∙ fresh_row a.channel p.channel in
     true≢false (sym p.kept ∙ ap (λ (row : Row). has_record row.immediate) r ∙ empty_none)
 
@@ -96,6 +96,6 @@ empty_capture card =
     let none : records_of card [] ≡ [] =
     none_in (records_of card []) (λ a m.
     let d = due_in card none_written _ a m in
-    fresh_none card a (last-from fresh_station _ a d.0) d.1)
+    fresh_none card a (last_from fresh_station _ a d.0) d.1)
     in
     ap (λ (l : List Ask). header ++ texts_of l) none ∙ append-nil header

@@ -31,12 +31,12 @@ use Rattle.station.specs.declared.Station.{Station}
 use Rattle.station.specs.Station.{row_at, gate_tests, is_served, book_after, station_after}
 use Rattle.station.specs.Queries.{is_slot, is_empty}
 use Rattle.station.proofs.Served.{past_gate}
-use Rattle.station.proofs.ChannelRuns.{after_none, after-some, after-apart}
+use Rattle.station.proofs.ChannelRuns.{after_none, after_some, after_apart}
 use Rattle.navigation_queries.specs.Five.{has_five, five_of}
 use Rattle.navigation_queries.specs.Carrier.{has_entry}
 use Rattle.navigation.specs.Writes.{n_at, is_within, record_bytes, quarter_of, quarter_at}
 use Rattle.navfile.specs.File.{ask_of, is_answered}
-use Rattle.navfile.proofs.Answered.{answered-first, first-answered}
+use Rattle.navfile.proofs.Answered.{answered_first, first_answered}
 
 -- ---- no entry goes away: the greater of two has no smaller day
 day_grows : (a b : Entry) → is_below (meaning a) (meaning b) ≡ true → a.day ≤ b.day
@@ -88,8 +88,8 @@ module _ (st : Station) (card ch epoch : ℕ) (s : List ℕ) where
   abbrev after : Station
   after = station_after st card ch epoch s
 
-  book-filled : (k : ℕ) → Filled st.book k → Filled (book_after st.book (row_at st ch) epoch s) k
-  book-filled k h = by (stores_it (frame_of (row_at st ch)) epoch s)
+  book_filled : (k : ℕ) → Filled st.book k → Filled (book_after st.book (row_at st ch) epoch s) k
+  book_filled k h = by (stores_it (frame_of (row_at st ch)) epoch s)
     where
       by : (t : Bool) → Filled (pick t (brought st.book (shows_of (frame_of (offered_row (row_at st ch) epoch s)))) st.book) k
       by true = brought_filled (shows_of (frame_of (offered_row (row_at st ch) epoch s))) st.book k h
@@ -99,11 +99,11 @@ module _ (st : Station) (card ch epoch : ℕ) (s : List ℕ) where
   after_filled k h = by (is_served card ch) refl
     where
       by : (t : Bool) → is_served card ch ≡ t → Filled after.book k
-      by true e = subst (λ (x : Station). Filled x.book k) (sym (after-some st card ch epoch s e)) (book-filled k h)
+      by true e = subst (λ (x : Station). Filled x.book k) (sym (after_some st card ch epoch s e)) (book_filled k h)
       by false e = subst (λ (x : Station). Filled x.book k) (sym (after_none st card ch epoch s e)) h
 
-  entry-stays : (k : ℕ) → has_entry st k ≡ true → has_entry after k ≡ true
-  entry-stays k e =
+  entry_stays : (k : ℕ) → has_entry st k ≡ true → has_entry after k ≡ true
+  entry_stays k e =
       let p = both (is_slot k) (not (is_empty st.book k)) e in
       let n = eqb-false (in_slot st.book k).day 0 (not-true (is_empty st.book k) p.1) in
       let h : 1 ≤ (in_slot st.book k).day = positive (in_slot st.book k).day n in
@@ -154,17 +154,17 @@ module _ (st : Station) (card ch epoch : ℕ) (s : List ℕ) (c : ℕ) (other : 
   then = station_after st card ch epoch s
 
   row_stays : row_at then c ≡ row_at st c
-  row_stays = after-apart st card ch c (λ e q. other q) epoch s
+  row_stays = after_apart st card ch c (λ e q. other q) epoch s
 
   -- THE RECORD STAYS
-  pub answered-stays : is_answered card (ask_of st c) ≡ true → is_answered card (ask_of then c) ≡ true
-  answered-stays e =
-      first-answered card then c
+  pub answered_stays : is_answered card (ask_of st c) ≡ true → is_answered card (ask_of then c) ≡ true
+  answered_stays e =
+      first_answered card then c
       (subst (λ (row : Row). first_with card c row (has_entry then (n_of row)) ≡ 0) (sym row_stays)
-      (first_stays card c (row_at st c) (has_entry st (n_at st c)) (has_entry then (n_at st c)) (entry-stays st card ch epoch s (n_at st c)) (answered-first card st c e)))
+      (first_stays card c (row_at st c) (has_entry st (n_at st c)) (has_entry then (n_at st c)) (entry_stays st card ch epoch s (n_at st c)) (answered_first card st c e)))
 
-  pub satellite-stays : n_at then c ≡ n_at st c
-  satellite-stays = ap n_of row_stays
+  pub satellite_stays : n_at then c ≡ n_at st c
+  satellite_stays = ap n_of row_stays
 
-  pub epoch-stays : quarter_at then c ≡ quarter_at st c
-  epoch-stays = ap (λ (row : Row). quarter_of (n4_of row) (nt_of row) (tb_of row)) row_stays
+  pub epoch_stays : quarter_at then c ≡ quarter_at st c
+  epoch_stays = ap (λ (row : Row). quarter_of (n4_of row) (nt_of row) (tb_of row)) row_stays

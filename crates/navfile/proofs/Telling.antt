@@ -27,26 +27,26 @@ use Rattle.navfile.specs.declared.Office.{Office}
 use Rattle.navfile.specs.declared.Told.{Told}
 use Rattle.navfile.specs.File.{record_at, offered, station_at, Ask, ask_of, ask_before, asks_at, asks_up_to, lines_of, is_other, is_new, is_due, kept_for, noted, due_of, written_after, texts_of}
 use Rattle.navfile.specs.Calls.{text_for, office_for, office_heard, text_in, office_in, last_text, Tells, TellsAsk, TellsNew, TellsRecord, TellsBlock, TellsEnd}
-use Rattle.navfile.proofs.Answered.{answered-parts, Said, written-said, not-said}
-use Rattle.navfile.proofs.Due.{due-append, written-append}
+use Rattle.navfile.proofs.Answered.{answered_parts, Said, written_said, not_said}
+use Rattle.navfile.proofs.Due.{due_append, written_append}
 use Rattle.navfile.proofs.Pieces.{lines_long, texts_append}
 
 -- ---- a record of a satellite and an epoch
 module _ (o : Office) (n quarter : ℕ) (lines text : List ℕ) (at : ℕ) where
-  pub told-before : quarter ≡ get_or o.written n 0 → TellsNew o n quarter lines text at (record { office = o; end = at }) text
+  pub told_before : quarter ≡ get_or o.written n 0 → TellsNew o n quarter lines text at (record { office = o; end = at }) text
   unfolding TellsNew
-  told-before e = rw (eq-eqb quarter (get_or o.written n 0) e) (record { office = refl; puts = puts_none })
+  told_before e = rw (eq-eqb quarter (get_or o.written n 0) e) (record { office = refl; puts = puts_none })
 
-  pub told-new : {text' : List ℕ} {end : ℕ} → (quarter ≡ get_or o.written n 0 → ⊥) → Puts text at lines text' end
+  pub told_new : {text' : List ℕ} {end : ℕ} → (quarter ≡ get_or o.written n 0 → ⊥) → Puts text at lines text' end
       → TellsNew o n quarter lines text at (record { office = record { station = o.station; written = kept_for o.written n quarter }; end = end }) text'
   unfolding TellsNew
-  told-new e p = rw (ne_eqb quarter (get_or o.written n 0) e) (record { office = refl; puts = p })
+  told_new e p = rw (ne_eqb quarter (get_or o.written n 0) e) (record { office = refl; puts = p })
 
 -- ---- one ask, due or not
 module _ (card : ℕ) (o : Office) (a : Ask) where
-  one-text : text_for card o (a ∷ []) ≡ pick (is_due card o.written a) (lines_of a) []
+  one_text : text_for card o (a ∷ []) ≡ pick (is_due card o.written a) (lines_of a) []
   unfolding due_of texts_of
-  one-text = by (is_due card o.written a)
+  one_text = by (is_due card o.written a)
     where
       by : (t : Bool) → texts_of (pick t (a ∷ []) [] ++ []) ≡ pick t (lines_of a) []
       by true = append-nil (lines_of a)
@@ -56,17 +56,17 @@ module _ (card : ℕ) (o : Office) (a : Ask) where
   unfolding written_after
   one_written = refl
 
-  abbrev withWritten : List ℕ → Office
-  withWritten w = record { station = o.station; written = w }
+  abbrev with_written : List ℕ → Office
+  with_written w = record { station = o.station; written = w }
 
   -- by whether it is due
-  tells-by : {text text' : List ℕ} {at : ℕ} {r : Told} (t : Bool) → is_due card o.written a ≡ t
-      → Tells text at (pick t (lines_of a) []) (withWritten (pick t (noted o.written a) o.written)) r text'
+  tells_by : {text text' : List ℕ} {at : ℕ} {r : Told} (t : Bool) → is_due card o.written a ≡ t
+      → Tells text at (pick t (lines_of a) []) (with_written (pick t (noted o.written a) o.written)) r text'
       → Tells text at (text_for card o (a ∷ [])) (office_for card o (a ∷ [])) r text'
-  tells-by t e p =
+  tells_by t e p =
       record {
-        office = p.office ∙ ap withWritten (sym (one_written ∙ ap (λ (b : Bool). pick b (noted o.written a) o.written) e));
-        puts = puts_as (sym (one-text ∙ ap (λ (b : Bool). pick b (lines_of a) []) e)) p.puts;
+        office = p.office ∙ ap with_written (sym (one_written ∙ ap (λ (b : Bool). pick b (noted o.written a) o.written) e));
+        puts = puts_as (sym (one_text ∙ ap (λ (b : Bool). pick b (lines_of a) []) e)) p.puts;
       }
 
 -- by what the call that writes a record answered
@@ -77,26 +77,26 @@ module _ (card : ℕ) (o : Office) (c : ℕ) (out out' text : List ℕ) (at : �
   -- a record
   module _ (n quarter : ℕ) (e : said ≡ Written n quarter) where
     said_of : Said card o.station c n quarter out'
-    said_of = written-said card o.station c n quarter out out' four (subst (λ (r : Answer). Writes o.station card c out r out') e w)
+    said_of = written_said card o.station c n quarter out out' four (subst (λ (r : Answer). Writes o.station card c out r out') e w)
 
-    pub satellite-most : n ≤ 24
-    satellite-most = omega (arith, said_of.satellite, (answered-parts card o.station c said_of.answered).slot_most)
+    pub satellite_most : n ≤ 24
+    satellite_most = omega (arith, said_of.satellite, (answered_parts card o.station c said_of.answered).slot_most)
 
-    pub record-long : length out' ≡ record_bytes
-    record-long = ap length said_of.lines ∙ lines_long it
+    pub record_long : length out' ≡ record_bytes
+    record_long = ap length said_of.lines ∙ lines_long it
 
-    pub tells-ask : (text' : List ℕ) (r : Told) → TellsNew o n quarter out' text at r text' → TellsAsk card o c text at r text'
+    pub tells_ask : (text' : List ℕ) (r : Told) → TellsNew o n quarter out' text at r text' → TellsAsk card o c text at r text'
     unfolding TellsNew is_due
-    tells-ask text' r p =
+    tells_ask text' r p =
         let s = said_of in
         let new = is_other quarter (get_or o.written n 0) in
         let d : is_due card o.written it ≡ new =
         ap (λ (b : Bool). b && is_new o.written it) s.answered ∙ ap₂ (λ (q k : ℕ). is_other q (get_or o.written k 0)) (sym s.epoch) (sym s.satellite)
         in
-        tells-by card o it new d
+        tells_by card o it new d
         (record {
           office = p.office
-              ∙ ap (withWritten card o it) (ap₂ (λ (k q : ℕ). pick new (kept_for o.written k q) o.written) s.satellite s.epoch);
+              ∙ ap (with_written card o it) (ap₂ (λ (k q : ℕ). pick new (kept_for o.written k q) o.written) s.satellite s.epoch);
           puts = puts_as (ap (λ (l : List ℕ). pick new l []) s.lines) p.puts;
         })
 
@@ -104,18 +104,18 @@ module _ (card : ℕ) (o : Office) (c : ℕ) (out out' text : List ℕ) (at : �
   tells_none : eqb (get_or (answer_paper said) 0 0) 0 ≡ false → TellsAsk card o c text at (record { office = o; end = at }) text
   unfolding is_due
   tells_none n =
-      let e : is_due card o.written it ≡ false = ap (λ (b : Bool). b && is_new o.written it) (not-said card o.station c said out out' four n w) in
-      tells-by card o it false e (record { office = refl; puts = puts_none })
+      let e : is_due card o.written it ≡ false = ap (λ (b : Bool). b && is_new o.written it) (not_said card o.station c said out out' four n w) in
+      tells_by card o it false e (record { office = refl; puts = puts_none })
 
-  pub tells-refused : {why : Refusal} → said ≡ Refused why → TellsAsk card o c text at (record { office = o; end = at }) text
-  tells-refused {why} e = tells_none (ap (λ (r : Answer). eqb (get_or (answer_paper r) 0 0) 0) e ∙ (refusal_known why).1)
+  pub tells_refused : {why : Refusal} → said ≡ Refused why → TellsAsk card o c text at (record { office = o; end = at }) text
+  tells_refused {why} e = tells_none (ap (λ (r : Answer). eqb (get_or (answer_paper r) 0 0) 0) e ∙ (refusal_known why).1)
 
-  pub tells-no-lines : said ≡ Lines → TellsAsk card o c text at (record { office = o; end = at }) text
-  tells-no-lines e = tells_none (ap (λ (r : Answer). eqb (get_or (answer_paper r) 0 0) 0) e)
+  pub tells_no_lines : said ≡ Lines → TellsAsk card o c text at (record { office = o; end = at }) text
+  tells_no_lines e = tells_none (ap (λ (r : Answer). eqb (get_or (answer_paper r) 0 0) 0) e)
 
 -- a piece of one ask is four lines at most
 pub piece_most : (card : ℕ) (o : Office) (a : Ask) → length (text_for card o (a ∷ [])) ≤ record_bytes
-piece_most card o a = subst (λ (x : List ℕ). length x ≤ record_bytes) (sym (one-text card o a)) (by (is_due card o.written a))
+piece_most card o a = subst (λ (x : List ℕ). length x ≤ record_bytes) (sym (one_text card o a)) (by (is_due card o.written a))
   where
     by : (t : Bool) → length (pick t (lines_of a) []) ≤ record_bytes
     by true = omega (arith, lines_long a)
@@ -169,9 +169,9 @@ module _ {card : ℕ} {o : Office} {input text₀ : List ℕ} where
       (record {
         office = m.office
             ∙ ap (λ (w : List ℕ). record { station = offered card (station_at card o.station input i) (record_at input i); written = w })
-            (sym (written-append card o.written asks last));
+            (sym (written_append card o.written asks last));
         puts = puts_as
-            (sym (ap texts_of (due-append card o.written asks last) ∙ texts_append (due_of card o.written asks) (due_of card (written_after card o.written asks) last)))
+            (sym (ap texts_of (due_append card o.written asks last) ∙ texts_append (due_of card o.written asks) (due_of card (written_after card o.written asks) last)))
             (puts_more s.puts m.puts);
         bound = omega (arith, s.bound, m.puts.past, most);
       })
@@ -199,18 +199,18 @@ module _ {card : ℕ} {o : Office} {text₀ : List ℕ} where
   unfolding asks_up_to due_of written_after texts_of
   no_channel = record { office = refl; puts = puts_none; bound = omega arith }
 
-  pub channel-more : {text text' : List ℕ} {after : Office} {end c : ℕ} (r : Told) → Uptill card o text₀ text after end c
+  pub channel_more : {text text' : List ℕ} {after : Office} {end c : ℕ} (r : Told) → Uptill card o text₀ text after end c
       → TellsAsk card after c text end r text' → Uptill card o text₀ text' r.office r.end (c + 1)
   unfolding asks_up_to
-  channel-more {text} {text'} {after} {end} {c} r s p =
+  channel_more {text} {text'} {after} {end} {c} r s p =
       let asks = asks_up_to o.station c in
       let last = ask_of o.station c ∷ [] in
       let m : TellsAsk card (office_for card o asks) c text end r text' = subst (λ (x : Office). TellsAsk card x c text end r text') s.office p in
       rw add-one
       (record {
-        office = m.office ∙ ap (λ (w : List ℕ). record { station = o.station; written = w }) (sym (written-append card o.written asks last));
+        office = m.office ∙ ap (λ (w : List ℕ). record { station = o.station; written = w }) (sym (written_append card o.written asks last));
         puts = puts_as
-            (sym (ap texts_of (due-append card o.written asks last) ∙ texts_append (due_of card o.written asks) (due_of card (written_after card o.written asks) last)))
+            (sym (ap texts_of (due_append card o.written asks last) ∙ texts_append (due_of card o.written asks) (due_of card (written_after card o.written asks) last)))
             (puts_more s.puts m.puts);
         bound = omega (arith, s.bound, m.puts.past, piece_most card (office_for card o asks) (ask_of o.station c));
       })

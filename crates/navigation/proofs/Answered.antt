@@ -20,7 +20,7 @@ use Rattle.rinex.specs.Record.{record_text, From, IsWritable}
 use Rattle.channel.proofs.HeldFrame.{first_said}
 use Rattle.station.specs.declared.Station.{Station}
 use Rattle.station.specs.Station.{is_served, gate_tests}
-use Rattle.station.proofs.Served.{open-says, shut-says}
+use Rattle.station.proofs.Served.{open_says, shut_says_lem}
 use Rattle.navigation_queries.specs.Five.{five_at}
 use Rattle.navigation_queries.specs.Carrier.{carrier_at}
 use Rattle.navigation.specs.declared.Answer.{Answer}
@@ -43,28 +43,28 @@ module _ (st : Station) (card c : ℕ) (out : List ℕ) where
   abbrev told : List ℕ
   told = n_at st c ∷ quarter_at st c ∷ []
 
-  pub writes-refused : (why : Refusal) → Gathers st card c (NotGathered why) → Writes st card c out (Refused why) out
+  pub writes_refused : (why : Refusal) → Gathers st card c (NotGathered why) → Writes st card c out (Refused why) out
   unfolding Writes
-  writes-refused why g =
+  writes_refused why g =
       let said = by (is_served card c) refl (is_there st c) refl in
       record { answer = said; output = refusal_leaves (first_of (record_tests st card c (length out))) (place_of (record_tests st card c (length out))) told (text_at st c) out why said }
     where
       by : (t : Bool) → is_served card c ≡ t → (u : Bool) → is_there st c ≡ u → refusal_paper why ≡ answer_of (record_tests st card c (length out)) told
-      by false s u q = g.answer ∙ shut-says card c (test 13 (not (is_there st c)) ∷ []) [] s ∙ sym (shut-says card c (test 13 (not (is_there st c)) ∷ rest) told s)
-      by true s true q = absurd (not_taken why [] (g.answer ∙ open-says card c (test 13 (not (is_there st c)) ∷ []) [] s ∙ rw q))
+      by false s u q = g.answer ∙ shut_says_lem card c (test 13 (not (is_there st c)) ∷ []) [] s ∙ sym (shut_says_lem card c (test 13 (not (is_there st c)) ∷ rest) told s)
+      by true s true q = absurd (not_taken why [] (g.answer ∙ open_says card c (test 13 (not (is_there st c)) ∷ []) [] s ∙ rw q))
       by true s false q =
           let here : answer_of (test 13 (not (is_there st c)) ∷ []) [] ≡ 13 ∷ [] = rw q in
           let so : answer_of (test 13 (not (is_there st c)) ∷ rest) told ≡ 13 ∷ [] = rw q in
-          g.answer ∙ open-says card c (test 13 (not (is_there st c)) ∷ []) [] s ∙ here ∙ sym (open-says card c (test 13 (not (is_there st c)) ∷ rest) told s ∙ so)
+          g.answer ∙ open_says card c (test 13 (not (is_there st c)) ∷ []) [] s ∙ here ∙ sym (open_says card c (test 13 (not (is_there st c)) ∷ rest) told s ∙ so)
 
   -- where all is there, the answer is by the words alone
   same_answer : is_served card c ≡ true → is_there st c ≡ true → answer_of (record_tests st card c (length out)) told ≡ answer_of rest told
-  same_answer s q = open-says card c (test 13 (not (is_there st c)) ∷ rest) told s ∙ rw q
+  same_answer s q = open_says card c (test 13 (not (is_there st c)) ∷ rest) told s ∙ rw q
 
-  pub writes-gathered : (w : ImmediateWords) (n4 h : ℤ) (r : Answer) (out' : List ℕ) → Gathers st card c (All w n4 h) → WritesAll w n4 h out r out'
+  pub writes_gathered : (w : ImmediateWords) (n4 h : ℤ) (r : Answer) (out' : List ℕ) → Gathers st card c (All w n4 h) → WritesAll w n4 h out r out'
       → Writes st card c out r out'
   unfolding Writes WritesAll text_at
-  writes-gathered w n4 h r out' g a =
+  writes_gathered w n4 h r out' g a =
       let z = told_zero card c (is_there st c) g.answer in
       let p = g.parts w n4 h refl in
       let b : WritesAll (words_at st c) (five_at st c).n4 (carrier_at st (n_at st c)) out r out' =
@@ -104,21 +104,21 @@ module _ (w : ImmediateWords) (n4 h : ℤ) (out : List ℕ) where
   abbrev years : Bool
   years = is_within 1 21 (nat_abs n4)
 
-  pub day-refused : day ≡ false → WritesAll w n4 h out (Refused (Range 26)) out
+  pub day_refused : day ≡ false → WritesAll w n4 h out (Refused (Range 26)) out
   unfolding WritesAll
-  day-refused d = record { answer = rw d; output = rw d }
+  day_refused d = record { answer = rw d; output = rw d }
 
   module _ (d : day ≡ true) where
-    pub years-refused : years ≡ false → WritesAll w n4 h out (Refused (Range 36)) out
+    pub years_refused : years ≡ false → WritesAll w n4 h out (Refused (Range 36)) out
     unfolding WritesAll
-    years-refused y = record { answer = rw (d, y); output = rw (d, y) }
+    years_refused y = record { answer = rw (d, y); output = rw (d, y) }
 
     module _ (y : years ≡ true) where
-      pub lines-refused : eqb (length out) record_bytes ≡ false → WritesAll w n4 h out Lines out
+      pub lines_refused : eqb (length out) record_bytes ≡ false → WritesAll w n4 h out Lines out
       unfolding WritesAll
-      lines-refused l = record { answer = rw (d, y, l); output = rw (d, y, l) }
+      lines_refused l = record { answer = rw (d, y, l); output = rw (d, y, l) }
 
-      pub all-written : eqb (length out) record_bytes ≡ true → (n quarter : ℕ) (out' : List ℕ) → n ∷ quarter ∷ [] ≡ told_of w n4 → out' ≡ record_text w n4 h
+      pub all_written_lem : eqb (length out) record_bytes ≡ true → (n quarter : ℕ) (out' : List ℕ) → n ∷ quarter ∷ [] ≡ told_of w n4 → out' ≡ record_text w n4 h
           → WritesAll w n4 h out (Written n quarter) out'
       unfolding WritesAll
-      all-written l n quarter out' t e = record { answer = rw (d, y, l) (ap (λ (x : List ℕ). 0 ∷ x) t); output = rw (d, y, l) e }
+      all_written_lem l n quarter out' t e = record { answer = rw (d, y, l) (ap (λ (x : List ℕ). 0 ∷ x) t); output = rw (d, y, l) e }

@@ -19,7 +19,7 @@ use Rattle.station.specs.declared.Station.{Station}
 use Rattle.station.specs.declared.RecordFound.TheVariants.{Found as FoundRecord, Refused as NoRecord}
 use Rattle.station.specs.Station.{is_card, is_served, gate_tests}
 use Rattle.station.specs.Queries.{kept_at, is_slot, is_empty, FindsRecord}
-use Rattle.station.proofs.Served.{open-says, shut-says, shut_not_zero, served_parts}
+use Rattle.station.proofs.Served.{open_says, shut_says_lem, shut_not_zero, served_parts}
 use Rattle.navigation_queries.specs.declared.FiveFound.TheVariants.{Found as FoundFive, Refused as NoFive}
 use Rattle.navigation_queries.specs.declared.CarrierFound.TheVariants.{Found as FoundCarrier, Refused as NoCarrier}
 use Rattle.navigation_queries.specs.Five.{is_five_at, five_at, FindsFive}
@@ -44,17 +44,17 @@ module _ (card c : ℕ) where
     where
       by : (t : Bool) → is_served card c ≡ t → (a : Bool) → 0 ∷ [] ≡ answer_of (gate_tests card c ++ (test 13 (not a) ∷ [])) [] → (is_served card c ≡ true) × (a ≡ true)
       by true s true e = (s, refl)
-      by true s false e = absurd (not_taken Nothing [] (sym (e ∙ open-says card c (test 13 true ∷ []) [] s)))
-      by false s a e = absurd (shut_not_zero card c s (e ∙ shut-says card c (test 13 (not a) ∷ []) [] s))
+      by true s false e = absurd (not_taken Nothing [] (sym (e ∙ open_says card c (test 13 true ∷ []) [] s)))
+      by false s a e = absurd (shut_not_zero card c s (e ∙ shut_says_lem card c (test 13 (not a) ∷ []) [] s))
 
   -- refused because it is not there: so is all that it is a part of
-  pub told-no : (a b : Bool) (why : Refusal) → (a ≡ false → b ≡ false) → refusal_paper why ≡ answer_of (gate_tests card c ++ (test 13 (not a) ∷ [])) []
+  pub told_no : (a b : Bool) (why : Refusal) → (a ≡ false → b ≡ false) → refusal_paper why ≡ answer_of (gate_tests card c ++ (test 13 (not a) ∷ [])) []
       → refusal_paper why ≡ answer_of (gate_tests card c ++ (test 13 (not b) ∷ [])) []
-  told-no a b why f e = by (is_served card c) refl a refl
+  told_no a b why f e = by (is_served card c) refl a refl
     where
       by : (t : Bool) → is_served card c ≡ t → (u : Bool) → a ≡ u → refusal_paper why ≡ answer_of (gate_tests card c ++ (test 13 (not b) ∷ [])) []
-      by false s u q = e ∙ shut-says card c (test 13 (not a) ∷ []) [] s ∙ sym (shut-says card c (test 13 (not b) ∷ []) [] s)
-      by true s true q = absurd (not_taken why [] (e ∙ open-says card c (test 13 (not a) ∷ []) [] s ∙ rw q))
+      by false s u q = e ∙ shut_says_lem card c (test 13 (not a) ∷ []) [] s ∙ sym (shut_says_lem card c (test 13 (not b) ∷ []) [] s)
+      by true s true q = absurd (not_taken why [] (e ∙ open_says card c (test 13 (not a) ∷ []) [] s ∙ rw q))
       by true s false q = e ∙ ap (λ (x : Bool). answer_of (gate_tests card c ++ (test 13 (not x) ∷ [])) []) (q ∙ sym (f q))
 
 -- a part that is not there
@@ -67,8 +67,8 @@ and_first a b e = rw e
 
 -- ---- the entry of n, by what the query of its carrier number says to one of the cards
 module _ (st : Station) (card n : ℕ) (there : is_card card ≡ true) where
-  entry-missing : (why : Refusal) → FindsCarrier st card n (NoCarrier why) → has_entry st n ≡ false
-  entry-missing why a = by (is_slot n) (is_empty st.book n) refl refl (rw there at a.answer)
+  entry_missing : (why : Refusal) → FindsCarrier st card n (NoCarrier why) → has_entry st n ≡ false
+  entry_missing why a = by (is_slot n) (is_empty st.book n) refl refl (rw there at a.answer)
     where
       by : (t u : Bool) → is_slot n ≡ t → is_empty st.book n ≡ u → refusal_paper why ≡ answer_of (test 14 (not (is_slot n)) ∷ test 13 (is_empty st.book n) ∷ []) []
           → has_entry st n ≡ false
@@ -87,18 +87,18 @@ module _ (st : Station) (card n : ℕ) (there : is_card card ≡ true) where
 
 -- ---- what the code gathers
 module _ (st : Station) (card c : ℕ) where
-  pub record-refused : (why : Refusal) → FindsRecord st card c (NoRecord why) → Gathers st card c (Refused why)
-  record-refused why a =
+  pub record_refused : (why : Refusal) → FindsRecord st card c (NoRecord why) → Gathers st card c (Refused why)
+  record_refused why a =
       record {
-        answer = told-no card c (has_record (kept_at st c)) (is_there st c) why (and_first (has_record (kept_at st c)) _) a.answer;
+        answer = told_no card c (has_record (kept_at st c)) (is_there st c) why (and_first (has_record (kept_at st c)) _) a.answer;
         parts = λ w n4 h q. no_parts q;
       }
 
-  pub five-refused : (why : Refusal) → FindsFive st card c (NoFive why) → Gathers st card c (Refused why)
-  five-refused why a =
+  pub five_refused : (why : Refusal) → FindsFive st card c (NoFive why) → Gathers st card c (Refused why)
+  five_refused why a =
       record {
         answer =
-            told-no card c (is_five_at st c) (is_there st c) why
+            told_no card c (is_five_at st c) (is_there st c) why
             (λ e. and_second (has_record (kept_at st c)) _ (and_first (is_five_at st c) _ e)) a.answer;
         parts = λ w n4 h q. no_parts q;
       }
@@ -116,17 +116,17 @@ module _ (st : Station) (card c : ℕ) where
     pub words_are : w ≡ words_at st c
     words_are = (found.words w start refl).0
 
-    pub n-read : From 0 31 w.four.n
-    n-read = subst (λ (x : ImmediateWords). From 0 31 x.four.n) (sym words_are) (as_read st c kept).satellite
+    pub n_read : From 0 31 w.four.n
+    n_read = subst (λ (x : ImmediateWords). From 0 31 x.four.n) (sym words_are) (as_read st c kept).satellite
 
     n_is : nat_abs w.four.n ≡ n_at st c
     n_is = ap (λ (x : ImmediateWords). nat_abs x.four.n) words_are
 
     pub no_entry : (n : ℕ) → n ≡ nat_abs w.four.n → (why : Refusal) → FindsCarrier st card n (NoCarrier why) → Gathers st card c (Refused Nothing)
     no_entry n e why a =
-        let missing : has_entry st (n_at st c) ≡ false = subst (λ (k : ℕ). has_entry st k ≡ false) (e ∙ n_is) (entry-missing st card n card_there why a) in
+        let missing : has_entry st (n_at st c) ≡ false = subst (λ (k : ℕ). has_entry st k ≡ false) (e ∙ n_is) (entry_missing st card n card_there why a) in
         let nothing : is_there st c ≡ false = and_second (has_record (kept_at st c)) _ (and_second (is_five_at st c) _ missing) in
-        record { answer = sym (open-says card c (test 13 (not (is_there st c)) ∷ []) [] served ∙ rw nothing); parts = λ w n4 h q. no_parts q }
+        record { answer = sym (open_says card c (test 13 (not (is_there st c)) ∷ []) [] served ∙ rw nothing); parts = λ w n4 h q. no_parts q }
 
     pub all_there : (n : ℕ) → n ≡ nat_abs w.four.n → (five : String5) → FindsFive st card c (FoundFive five) → (h : ℤ) → FindsCarrier st card n (FoundCarrier h)
         → Gathers st card c (All w five.n4 h)
@@ -134,7 +134,7 @@ module _ (st : Station) (card c : ℕ) where
         let has : has_entry st (n_at st c) ≡ true = subst (λ (k : ℕ). has_entry st k ≡ true) (e ∙ n_is) (entry_there st card n card_there h a) in
         let there : is_there st c ≡ true = rw (kept, (told_zero card c (is_five_at st c) f.answer).1, has) in
         record {
-          answer = sym (open-says card c (test 13 (not (is_there st c)) ∷ []) [] served ∙ rw there);
+          answer = sym (open_says card c (test 13 (not (is_there st c)) ∷ []) [] served ∙ rw there);
           parts = λ v n4 k q. let s = same_parts q in (
             sym s.0 ∙ words_are,
             (

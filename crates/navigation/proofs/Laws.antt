@@ -24,7 +24,7 @@ use Rattle.station.specs.declared.Station.{Station}
 use Rattle.station.specs.Station.{is_served, gate_tests}
 use Rattle.station.specs.Queries.{kept_at, is_slot}
 use Rattle.station.specs.Demand1.{OneAnswer}
-use Rattle.station.proofs.Served.{open-says, shut-says, zero_served, past_gate}
+use Rattle.station.proofs.Served.{open_says, shut_says_lem, zero_served, past_gate}
 use Rattle.station.proofs.Refusals.{Fitting, settles}
 use Rattle.station.proofs.EveryCall.{one}
 use Rattle.navigation_queries.specs.Five.{is_five_at, five_at}
@@ -72,9 +72,9 @@ module _ (st : Station) (card c : ℕ) (out : List ℕ) where
   once r q a b = ap₂ (λ (x : Answer) (y : List ℕ). (x, y)) (answer_same r.0 q.0 (a.answer ∙ sym b.answer)) (a.output ∙ sym b.output)
 
   -- ---- there is one
-  refused-so : (why : Refusal) → refusal_paper why ≡ answer_of tests told → OneAnswer (Answer × List ℕ) (λ r. Writes st card c out r.0 r.1)
+  refused_so : (why : Refusal) → refusal_paper why ≡ answer_of tests told → OneAnswer (Answer × List ℕ) (λ r. Writes st card c out r.0 r.1)
   unfolding Writes
-  refused-so why e =
+  refused_so why e =
       one (Answer × List ℕ) (λ r. Writes st card c out r.0 r.1) once (Refused why, out)
       (record { answer = e; output = refusal_leaves (first_of tests) (place_of tests) told (text_at st c) out why e })
 
@@ -86,27 +86,27 @@ module _ (st : Station) (card c : ℕ) (out : List ℕ) where
           → OneAnswer (Answer × List ℕ) (λ r. Writes st card c out r.0 r.1)
       by false s u p v q w x =
           ⊎_elim (λ (z : first_of (gate_tests card c) ≡ 0). absurd (true≢false (sym (zero_served card c z) ∙ s)))
-          (λ (f : Fitting (gate_tests card c)). refused-so f.refusal (f.says [] ∙ sym (shut-says card c (test 13 (not (is_there st c)) ∷ rest) told s)))
+          (λ (f : Fitting (gate_tests card c)). refused_so f.refusal (f.says [] ∙ sym (shut_says_lem card c (test 13 (not (is_there st c)) ∷ rest) told s)))
           (settles (gate_tests card c) tt)
-      by true s false p v q w x = refused-so Nothing (sym (open-says card c (test 13 (not (is_there st c)) ∷ rest) told s ∙ rw p))
-      by true s true p false q w x = refused-so (Range (place_out st c)) (sym (open-says card c (test 13 (not (is_there st c)) ∷ rest) told s ∙ rw (p, q)))
+      by true s false p v q w x = refused_so Nothing (sym (open_says card c (test 13 (not (is_there st c)) ∷ rest) told s ∙ rw p))
+      by true s true p false q w x = refused_so (Range (place_out st c)) (sym (open_says card c (test 13 (not (is_there st c)) ∷ rest) told s ∙ rw (p, q)))
       by true s true p true q false x =
-          let e : 17 ∷ [] ≡ answer_of tests told = sym (open-says card c (test 13 (not (is_there st c)) ∷ rest) told s ∙ rw (p, q, x)) in
+          let e : 17 ∷ [] ≡ answer_of tests told = sym (open_says card c (test 13 (not (is_there st c)) ∷ rest) told s ∙ rw (p, q, x)) in
           let f = first_given tests told e in
           one (Answer × List ℕ) (λ r. Writes st card c out r.0 r.1) once (Lines, out) (record { answer = e; output = rw f })
       by true s true p true q true x =
-          let e : 0 ∷ told ≡ answer_of tests told = sym (open-says card c (test 13 (not (is_there st c)) ∷ rest) told s ∙ rw (p, q, x)) in
+          let e : 0 ∷ told ≡ answer_of tests told = sym (open_says card c (test 13 (not (is_there st c)) ∷ rest) told s ∙ rw (p, q, x)) in
           let f = first_given tests told e in
           one (Answer × List ℕ) (λ r. Writes st card c out r.0 r.1) once (Written (n_at st c) (quarter_at st c), text_at st c) (record { answer = e; output = rw f })
 
   module _ (r : Answer) (out' : List ℕ) (a : Writes st card c out r out') where
     day_out : is_served card c ≡ true → is_there st c ≡ true → is_day st c ≡ false → answer_paper r ≡ 10 ∷ 26 ∷ []
     unfolding Writes
-    day_out s p d = a.answer ∙ open-says card c (test 13 (not (is_there st c)) ∷ rest) told s ∙ rw (p, d)
+    day_out s p d = a.answer ∙ open_says card c (test 13 (not (is_there st c)) ∷ rest) told s ∙ rw (p, d)
 
     years_out : is_served card c ≡ true → is_there st c ≡ true → is_day st c ≡ true → is_four_years st c ≡ false → answer_paper r ≡ 10 ∷ 36 ∷ []
     unfolding Writes
-    years_out s p d y = a.answer ∙ open-says card c (test 13 (not (is_there st c)) ∷ rest) told s ∙ rw (p, d, y)
+    years_out s p d y = a.answer ∙ open_says card c (test 13 (not (is_there st c)) ∷ rest) told s ∙ rw (p, d, y)
 
     untouched : (get_or (answer_paper r) 0 0 ≡ 0 → ⊥) → out' ≡ out
     unfolding Writes

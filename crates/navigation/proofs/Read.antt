@@ -34,8 +34,8 @@ module _ {least most : ℕ} (z : ℤ) (f : From least most z) (small : most ≤ 
   pub byte_fits : T (non_neg (to_z w32 (of_z w32 z))) × Fits w8 (nat_abs (to_z w32 (of_z w32 z)))
   byte_fits = rw back (tt, record { fits = omega (arith, f.not_more) })
 
-  pub byte-is : nat_abs (to_z w32 (of_z w32 z)) ≡ nat_abs z
-  byte-is = ap nat_abs back ∙ ap nat_abs (sym f.is)
+  pub byte_is : nat_abs (to_z w32 (of_z w32 z)) ≡ nat_abs z
+  byte_is = ap nat_abs back ∙ ap nat_abs (sym f.is)
 
 -- a plain number from bits
 plain : {z : ℤ} (k most : ℕ) → z ≡ pos k → k ≤ most → From 0 most z

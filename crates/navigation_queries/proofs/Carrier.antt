@@ -30,11 +30,11 @@ refused_alike zero place told why e = absurd (not_taken why told e)
 refused_alike (suc n) place told why e = e
 
 module _ (st : Station) (card k : ℕ) where
-  pub carrier-refused : (why : Refusal) → FindsEntry st card k (NoEntry why) → FindsCarrier st card k (Refused why)
-  carrier-refused why a = record { answer = refused_alike (first_of (entry_tests st card k)) (place_of (entry_tests st card k)) _ why a.answer; carrier = λ h q. no_carrier q }
+  pub carrier_refused : (why : Refusal) → FindsEntry st card k (NoEntry why) → FindsCarrier st card k (Refused why)
+  carrier_refused why a = record { answer = refused_alike (first_of (entry_tests st card k)) (place_of (entry_tests st card k)) _ why a.answer; carrier = λ h q. no_carrier q }
 
-  pub carrier-there : (e : Entry) (w : OddString) → FindsEntry st card k (FoundEntry e) → w ≡ odd_words (meaning e) → FindsCarrier st card k (Found w.h)
-  carrier-there e w a q =
+  pub carrier_there : (e : Entry) (w : OddString) → FindsEntry st card k (FoundEntry e) → w ≡ odd_words (meaning e) → FindsCarrier st card k (Found w.h)
+  carrier_there e w a q =
       let z = first_given (entry_tests st card k) _ a.answer in
       record {
         answer = rw z;

@@ -26,7 +26,7 @@ use Rattle.station.specs.declared.Gate.TheVariants.{Open, Shut}
 use Rattle.station.specs.Station.{row_at, held_at, is_served, Enters}
 use Rattle.station.specs.History.{Call, calls_on, Runs}
 use Rattle.station.specs.Isolation.{AgreeFor}
-use Rattle.station.proofs.Served.{open-says, shut-says, entered, shut_not_zero, served_below, owner_is}
+use Rattle.station.proofs.Served.{open_says, shut_says_lem, entered, shut_not_zero, served_below, owner_is}
 use Rattle.station.proofs.ChannelRuns.{in_step}
 use Rattle.station.proofs.Isolation.{by_row}
 use Rattle.navigation_queries.specs.declared.FiveFound.{FiveFound}
@@ -43,13 +43,13 @@ no_five q = cc
 
 -- ---- whether a row has it
 module _ (row : Row) where
-  pub no-record-no-five : has_record row.immediate ≡ false → false ≡ has_five row
+  pub no_record_no_five : has_record row.immediate ≡ false → false ≡ has_five row
   unfolding has_five
-  no-record-no-five e = rw e
+  no_record_no_five e = rw e
 
-  pub apart-no-five : (row.immediate.start ≡ row.start → ⊥) → false ≡ has_five row
+  pub apart_no_five : (row.immediate.start ≡ row.start → ⊥) → false ≡ has_five row
   unfolding has_five
-  apart-no-five n = rw (ne_eqb row.immediate.start row.start n) (by (has_record row.immediate) (holds_frame row.present) (is_present row.present 5))
+  apart_no_five n = rw (ne_eqb row.immediate.start row.start n) (by (has_record row.immediate) (holds_frame row.present) (is_present row.present 5))
     where
       by : (t u v : Bool) → false ≡ ((t && (u && false)) && v)
       by true true v = refl
@@ -57,9 +57,9 @@ module _ (row : Row) where
       by false u v = refl
 
   -- a row that has string 5 holds a frame
-  pub five-present : has_record row.immediate ≡ true → row.immediate.start ≡ row.start → is_present row.present 5 ≡ has_five row
+  pub five_present : has_record row.immediate ≡ true → row.immediate.start ≡ row.start → is_present row.present 5 ≡ has_five row
   unfolding has_five
-  five-present r e =
+  five_present r e =
       rw (r, eq-eqb row.immediate.start row.start e) (by (holds_frame row.present) (is_present row.present 5) (present_held row.present 5))
     where
       by : (u v : Bool) → (v ≡ true → u ≡ true) → v ≡ ((u && true) && v)
@@ -67,31 +67,31 @@ module _ (row : Row) where
       by false true h = absurd (false≢true (h refl))
       by false false h = refl
 
-  pub text-there : has_five row ≡ true → (frame_of row).text 5 ≡ string_in row.strings 5
+  pub text_there : has_five row ≡ true → (frame_of row).text 5 ≡ string_in row.strings 5
   unfolding has_five
-  text-there h = rw (both (still_holds row) (is_present row.present 5) h).1
+  text_there h = rw (both (still_holds row) (is_present row.present 5) h).1
 
 abbrev missing : Row → List Test
 missing row = test 13 (not (has_five row)) ∷ []
 
 -- ---- what the code finds
 pub five_shut : (st : Station) (card c : ℕ) (why : Refusal) → Enters card c (Shut why) → FindsFive st card c (Refused why)
-five_shut st card c why n = record { answer = n.1 ∙ sym (shut-says card c (missing (row_at st c)) [] n.0); words = λ w q. no_five q }
+five_shut st card c why n = record { answer = n.1 ∙ sym (shut_says_lem card c (missing (row_at st c)) [] n.0); words = λ w q. no_five q }
 
 module _ (st : Station) (card c i : ℕ) (n : Enters card c (Open i)) where
-  pub five-missing : has_five (row_at st i) ≡ false → FindsFive st card c (Refused Nothing)
-  five-missing h =
+  pub five_missing : has_five (row_at st i) ≡ false → FindsFive st card c (Refused Nothing)
+  five_missing h =
       entered (λ (k : ℕ). FindsFive st card k (Refused Nothing)) card n
-      (λ f. record { answer = sym (open-says card i (missing (row_at st i)) [] f ∙ rw h); words = λ w q. no_five q })
+      (λ f. record { answer = sym (open_says card i (missing (row_at st i)) [] f ∙ rw h); words = λ w q. no_five q })
 
-  pub five-there : has_five (row_at st i) ≡ true → (w : String5) → w ≡ five_at st i → FindsFive st card c (Found w)
-  five-there h w e =
+  pub five_there : has_five (row_at st i) ≡ true → (w : String5) → w ≡ five_at st i → FindsFive st card c (Found w)
+  five_there h w e =
       entered (λ (k : ℕ). FindsFive st card k (Found w)) card n
-      (λ f. record { answer = sym (open-says card i (missing (row_at st i)) [] f ∙ rw h); words = λ v q. sym (one_five q) ∙ e })
+      (λ f. record { answer = sym (open_says card i (missing (row_at st i)) [] f ∙ rw h); words = λ v q. sym (one_five q) ∙ e })
 
   -- string 5 that is there is the one among the row's strings
-  pub five-found : has_five (row_at st i) ≡ true → (w : String5) → w ≡ five_of (string_in (row_at st i).strings 5) → FindsFive st card c (Found w)
-  five-found h w e = five-there h w (e ∙ ap five_of (sym (text-there (row_at st i) h)))
+  pub five_found : has_five (row_at st i) ≡ true → (w : String5) → w ≡ five_of (string_in (row_at st i).strings 5) → FindsFive st card c (Found w)
+  five_found h w e = five_there h w (e ∙ ap five_of (sym (text_there (row_at st i) h)))
 
 -- NO SECOND ANSWER FITS
 pub fives_once : (st : Station) (card c : ℕ) (r q : FiveFound) → FindsFive st card c r → FindsFive st card c q → r ≡ q
@@ -111,7 +111,7 @@ module _ (card : ℕ) (st st' : Station) (agree : AgreeFor card st st') where
         where
           words : (t : Bool) → is_served card c ≡ t → w ≡ v
           words true q = a.words w refl ∙ ap (λ (x : Row). five_of ((frame_of x).text 5)) (agree c (served_below card c q) (owner_is card c q)) ∙ sym (b.words v refl)
-          words false q = absurd (shut_not_zero card c q (a.answer ∙ shut-says card c (missing (row_at st c)) [] q))
+          words false q = absurd (shut_not_zero card c q (a.answer ∙ shut_says_lem card c (missing (row_at st c)) [] q))
       by (Found w) (Refused q) e a b = absurd (not_taken q [] (sym e))
       by (Refused p) (Found v) e a b = absurd (not_taken p [] e)
       by (Refused p) (Refused q) e a b = ap Refused (refusal_same p q e)
@@ -124,9 +124,9 @@ module _ (cs : List Call) (st : Station) (run : Runs cs st) (card c : ℕ) (serv
   frame_is : held_at st c ≡ frame
   frame_is = held_is (calls_on c cs) (row_at st c) ((in_step cs st run).run c (served_below card c served))
 
-  there-is : is_five_at st c ≡ has_both frame
+  there_is : is_five_at st c ≡ has_both frame
   unfolding has_five
-  there-is =
+  there_is =
       ap (λ (t : Bool). t && (held_at st c).has 5) (still_held (calls_on c cs) (row_at st c) ((in_step cs st run).run c (served_below card c served)))
       ∙ ap has_both frame_is
 
@@ -134,7 +134,7 @@ module _ (cs : List Call) (st : Station) (run : Runs cs st) (card c : ℕ) (serv
   pub five_after : FiveAfter cs st card c
   five_after =
       record {
-        answer = λ r a. a.answer ∙ open-says card c (missing (row_at st c)) [] served ∙ ap (λ (t : Bool). answer_of (test 13 (not t) ∷ []) []) there-is ∙ by (has_both frame);
+        answer = λ r a. a.answer ∙ open_says card c (missing (row_at st c)) [] served ∙ ap (λ (t : Bool). answer_of (test 13 (not t) ∷ []) []) there_is ∙ by (has_both frame);
         words = ap (λ (f : Frame). five_of (f.text 5)) frame_is;
       }
     where

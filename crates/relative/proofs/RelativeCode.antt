@@ -188,75 +188,75 @@ decoded_same (Refused r) (Refused q) e = ap Refused (refusal_same r q e)
 
 -- ---- the answers of the calls, test by test: "Relative code, reading: 12, 2; writing: 12, 2, 4"
 module _ (s out : List ℕ) where
-  pub read-no-room : (length out ≡ 11 → ⊥) → ReadsRelative s out (Refused Room) out
+  pub read_no_room : (length out ≡ 11 → ⊥) → ReadsRelative s out (Refused Room) out
   unfolding ReadsRelative
-  read-no-room h = refuses 11 (no_room_lem out h)
+  read_no_room h = refuses 11 (no_room_lem out h)
 
-  pub read-no-shape : length out ≡ 11 → misshapen s ≡ true → ReadsRelative s out (Refused Shape) out
+  pub read_no_shape : length out ≡ 11 → misshapen s ≡ true → ReadsRelative s out (Refused Shape) out
   unfolding ReadsRelative
-  read-no-shape h e = goes_on 12 (has_room_lem out h) (refuses 1 e)
+  read_no_shape h e = goes_on 12 (has_room_lem out h) (refuses 1 e)
 
   pub reads : length out ≡ 11 → misshapen s ≡ false → ReadsRelative s out (Read (polarity_of (number_of s))) (bytes_of_string (read_relative (number_of s)))
   unfolding ReadsRelative
   reads h e = goes_on 12 (has_room_lem out h) (goes_on 2 e (takes (ap (λ (b : ℕ). 0 ∷ b ∷ []) (polarity_told (number_of s))) refl))
 
-  pub write-no-room : (length out ≡ 11 → ⊥) → WritesRelative s out (NotWritten Room) out
+  pub write_no_room : (length out ≡ 11 → ⊥) → WritesRelative s out (NotWritten Room) out
   unfolding WritesRelative
-  write-no-room h = refuses 11 (no_room_lem out h)
+  write_no_room h = refuses 11 (no_room_lem out h)
 
-  pub write-no-shape : length out ≡ 11 → misshapen s ≡ true → WritesRelative s out (NotWritten Shape) out
+  pub write_no_shape : length out ≡ 11 → misshapen s ≡ true → WritesRelative s out (NotWritten Shape) out
   unfolding WritesRelative
-  write-no-shape h e = goes_on 12 (has_room_lem out h) (refuses 1 e)
+  write_no_shape h e = goes_on 12 (has_room_lem out h) (refuses 1 e)
 
   -- past room and shape a writing goes by its last test, whatever that is: the code's two ends need no more
-  abbrev lastFits : Bool
-  lastFits = (get_or (writing_tests s out) 2 (test 0 false)).fits
+  abbrev last_fits : Bool
+  last_fits = (get_or (writing_tests s out) 2 (test 0 false)).fits
 
-  pub last_refuses : length out ≡ 11 → misshapen s ≡ false → lastFits ≡ true → WritesRelative s out (NotWritten Idle) out
+  pub last_refuses : length out ≡ 11 → misshapen s ≡ false → last_fits ≡ true → WritesRelative s out (NotWritten Idle) out
   unfolding WritesRelative
   last_refuses h e i = goes_on 12 (has_room_lem out h) (goes_on 2 e (refuses 3 i))
 
-  pub last-takes : length out ≡ 11 → misshapen s ≡ false → lastFits ≡ false → WritesRelative s out Done (bytes_of_string (write_relative (number_of s)))
+  pub last_takes : length out ≡ 11 → misshapen s ≡ false → last_fits ≡ false → WritesRelative s out Done (bytes_of_string (write_relative (number_of s)))
   unfolding WritesRelative
-  last-takes h e i = goes_on 12 (has_room_lem out h) (goes_on 2 e (goes_on 4 i (takes refl refl)))
+  last_takes h e i = goes_on 12 (has_room_lem out h) (goes_on 2 e (goes_on 4 i (takes refl refl)))
 
   -- it is the test of bit 85
-  pub write-idle : length out ≡ 11 → misshapen s ≡ false → is_idle (number_of s) ≡ true → WritesRelative s out (NotWritten Idle) out
-  write-idle h e i = last_refuses h e i
+  pub write_idle : length out ≡ 11 → misshapen s ≡ false → is_idle (number_of s) ≡ true → WritesRelative s out (NotWritten Idle) out
+  write_idle h e i = last_refuses h e i
 
   pub writes : length out ≡ 11 → misshapen s ≡ false → is_idle (number_of s) ≡ false
       → WritesRelative s out Done (bytes_of_string (write_relative (number_of s)))
-  writes h e i = last-takes h e i
+  writes h e i = last_takes h e i
 
 -- ---- no second answer fits, and each number is given exactly where its test is the first to fit
 module _ (s out : List ℕ) where
-  pub reads-once : (r : Decoded) (out' : List ℕ) (q : Decoded) (out'' : List ℕ) → ReadsRelative s out r out' → ReadsRelative s out q out''
+  pub reads_once : (r : Decoded) (out' : List ℕ) (q : Decoded) (out'' : List ℕ) → ReadsRelative s out r out' → ReadsRelative s out q out''
       → (r ≡ q) × (out' ≡ out'')
   unfolding ReadsRelative
-  reads-once r out' q out'' a b = let e = same_answer a b in (decoded_same r q e.0, e.1)
+  reads_once r out' q out'' a b = let e = same_answer a b in (decoded_same r q e.0, e.1)
 
-  pub writes-once : (r : Written) (out' : List ℕ) (q : Written) (out'' : List ℕ) → WritesRelative s out r out' → WritesRelative s out q out''
+  pub writes_once : (r : Written) (out' : List ℕ) (q : Written) (out'' : List ℕ) → WritesRelative s out r out' → WritesRelative s out q out''
       → (r ≡ q) × (out' ≡ out'')
   unfolding WritesRelative
-  writes-once r out' q out'' a b = let e = same_answer a b in (written_same r q e.0, e.1)
+  writes_once r out' q out'' a b = let e = same_answer a b in (written_same r q e.0, e.1)
 
-  pub reads-exactly : (r : Decoded) (out' : List ℕ) → ReadsRelative s out r out' → Exactly (reading_tests s out) (decoded_paper r)
+  pub reads_exactly : (r : Decoded) (out' : List ℕ) → ReadsRelative s out r out' → Exactly (reading_tests s out) (decoded_paper r)
   unfolding ReadsRelative
-  reads-exactly r out' a = exactly tt a
+  reads_exactly r out' a = exactly tt a
 
-  pub writes-exactly : (r : Written) (out' : List ℕ) → WritesRelative s out r out' → Exactly (writing_tests s out) (written_paper r)
+  pub writes_exactly : (r : Written) (out' : List ℕ) → WritesRelative s out r out' → Exactly (writing_tests s out) (written_paper r)
   unfolding WritesRelative
-  writes-exactly r out' a = exactly tt a
+  writes_exactly r out' a = exactly tt a
 
 -- "Refusals leave outputs untouched"
 module _ (s out : List ℕ) (q : Refusal) (out' : List ℕ) where
-  pub reads-untouched : ReadsRelative s out (Refused q) out' → out' ≡ out
+  pub reads_untouched : ReadsRelative s out (Refused q) out' → out' ≡ out
   unfolding ReadsRelative
-  reads-untouched a = refused_left q a
+  reads_untouched a = refused_left q a
 
-  pub writes-untouched : WritesRelative s out (NotWritten q) out' → out' ≡ out
+  pub writes_untouched : WritesRelative s out (NotWritten q) out' → out' ≡ out
   unfolding WritesRelative
-  writes-untouched a = refused_left q a
+  writes_untouched a = refused_left q a
 
 -- ---- over the calls: what they make of the bytes of a string
 reads_string : (x : ℕ) (out : List ℕ) → x < 2 ^ 85 → length out ≡ 11 → ReadsRelative (bytes_of_string x) out (Read (polarity_of x)) (bytes_of_string (read_relative x))
@@ -289,8 +289,8 @@ pub polarity_means : (x : ℕ) → x < 2 ^ 85 → (out back : List ℕ) → leng
 unfolding first_symbol
 polarity_means x h out back l m r q out' back' a b =
     let y = read_relative x in
-    let d = reads-once (bytes_of_string x) out r out' (Read (polarity_of x)) (bytes_of_string y) a (reads_string x out h l) in
-    let e = writes-once (bytes_of_string y) back q back' Done (bytes_of_string (write_relative y))
+    let d = reads_once (bytes_of_string x) out r out' (Read (polarity_of x)) (bytes_of_string y) a (reads_string x out h l) in
+    let e = writes_once (bytes_of_string y) back q back' Done (bytes_of_string (write_relative y))
     (subst (λ (s : List ℕ). WritesRelative s back q back') d.1 b) (writes_string y back (read_lt x) m) in
     let told : (k : ℕ) → bit_of x 85 ≡ k → r ≡ Read (polarity_by k) = (λ k z. d.0 ∙ ap (λ (c : ℕ). Read (polarity_by c)) z) in
     ⊎_elim
@@ -325,8 +325,8 @@ pub written_then_read : (n : ℕ) → n < 2 ^ 84 → (out back : List ℕ) → l
     → (r ≡ Done) × ((q ≡ Read Upright) × (back' ≡ bytes_of_string n))
 written_then_read n h out back l m r q out' back' a b =
     let w = write_relative n in
-    let d = writes-once (bytes_of_string n) out r out' Done (bytes_of_string w) a (writes_string n out h l) in
-    let e = reads-once (bytes_of_string w) back q back' (Read (polarity_of w)) (bytes_of_string (read_relative w))
+    let d = writes_once (bytes_of_string n) out r out' Done (bytes_of_string w) a (writes_string n out h l) in
+    let e = reads_once (bytes_of_string w) back q back' (Read (polarity_of w)) (bytes_of_string (read_relative w))
     (subst (λ (s : List ℕ). ReadsRelative s back q back') d.1 b) (reads_string w back (written_lt n) m) in
     (d.0, (e.0 ∙ ap (λ (b : ℕ). Read (polarity_by b)) (first_written n h), e.1 ∙ ap bytes_of_string (read_written n h)))
 
@@ -369,7 +369,7 @@ pub inverse_reads_alike : (x : ℕ) → x < 2 ^ 85 → (out : List ℕ) (r q : D
 inverse_reads_alike x h out r q out' out'' a b =
     let y = inverse x in
     let g = inverse_lt x h in
-    reads-once (bytes_of_string y) out q out'' (other_way r) out' b
+    reads_once (bytes_of_string y) out q out'' (other_way r) out' b
     (reads_turned (bytes_of_string x) (bytes_of_string y) out r out' (string_shaped x h ∙ sym (string_shaped y g))
     (ap read_relative (string_number_lem x h) ∙ sym (inverse_alike x h) ∙ ap read_relative (sym (string_number_lem y g)))
     (ap first_symbol (string_number_lem y g) ∙ first_turned x ∙ ap (λ (z : ℕ). (first_symbol z + 1) % 2) (sym (string_number_lem x h))) a)

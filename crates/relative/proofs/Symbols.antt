@@ -107,17 +107,17 @@ twice b = omega arith
 
 -- with the first symbol once more before it, each bit of a string added to the bit above is the bit as it is read
 module _ (t n : ℕ) (h : n < 2 ^ 85) where
-  led-low : (i : ℕ) → 1 ≤ i → i ≤ 85 → bit_of (t * 2 ^ 85 + n) i ≡ bit_of n i
-  led-low i l u =
+  led_low : (i : ℕ) → 1 ≤ i → i ≤ 85 → bit_of (t * 2 ^ 85 + n) i ≡ bit_of n i
+  led_low i l u =
       sym (low_digit (t * 2 ^ 85 + n) 85 (i - 1) (omega arith)) ∙ ap (λ (x : ℕ). x / 2 ^ (i - 1) % 2) (low t 85 h)
 
-  led-bit : t ≡ bit_of n 85 → (i : ℕ) → 1 ≤ i → i ≤ 85 → bit_of (with_above (t * 2 ^ 85 + n)) i ≡ read_bit n i
-  led-bit e i l u =
-      bit_above (t * 2 ^ 85 + n) i l ∙ ap (λ (x : ℕ). (x + bit_of (t * 2 ^ 85 + n) (i + 1)) % 2) (led-low i l u)
+  led_bit : t ≡ bit_of n 85 → (i : ℕ) → 1 ≤ i → i ≤ 85 → bit_of (with_above (t * 2 ^ 85 + n)) i ≡ read_bit n i
+  led_bit e i l u =
+      bit_above (t * 2 ^ 85 + n) i l ∙ ap (λ (x : ℕ). (x + bit_of (t * 2 ^ 85 + n) (i + 1)) % 2) (led_low i l u)
       ∙ ⊎_elim
       (λ (q : i ≡ 85). subst (λ (j : ℕ). (bit_of n j + bit_of (t * 2 ^ 85 + n) (j + 1)) % 2 ≡ read_bit n j) (sym q)
       (ap (λ (x : ℕ). (bit_of n 85 + x % 2) % 2) (high t 85 h ∙ e) ∙ twice (bit_of n 85)))
-      (λ (g : i < 85). ap (λ (x : ℕ). (bit_of n i + x) % 2) (led-low (i + 1) (omega arith) (omega arith)) ∙ sym (read_below n i g))
+      (λ (g : i < 85). ap (λ (x : ℕ). (bit_of n i + x) % 2) (led_low (i + 1) (omega arith) (omega arith)) ∙ sym (read_below n i g))
       (eq-or-lt_of_le u)
 
 read_number : (s : List ℕ) → Bytes s → length s ≡ 11 → with_above (value_of (led s)) / 8 % 2 ^ 85 ≡ read_relative (number_of s)
@@ -130,7 +130,7 @@ read_number s h n =
     let first : t ≡ bit_of x 85 = (let b = h 0 in let f = bit_at s 85 h n (lit≤ tt) (lit≤ tt) in omega arith) in
     ap (λ (y : ℕ). y % 2 ^ 85) (above_shr (value_of (led s)) 3 ∙ ap with_above e)
     ∙ bits_same 85 (with_above (t * 2 ^ 85 + x) % 2 ^ 85) (read_relative x) (mod-lt (with_above (t * 2 ^ 85 + x)) (pow_pos 85)) (read_fits x)
-    (λ i l u. low_digit (with_above (t * 2 ^ 85 + x)) 85 (i - 1) (omega arith) ∙ led-bit t x (number_lt s h n) first i l u ∙ sym (bit_read x i l u))
+    (λ i l u. low_digit (with_above (t * 2 ^ 85 + x)) 85 (i - 1) (omega arith) ∙ led_bit t x (number_lt s h n) first i l u ∙ sym (bit_read x i l u))
 
 -- one byte more
 pub set_more : (l m : List ℕ) (k v : ℕ) → k < length l → v ≡ get_or m k 0 → ((j : ℕ) → j < k → get_or l j 0 ≡ get_or m j 0)
@@ -154,37 +154,37 @@ unfoldable pub part_sent : ℕ → ℕ → ℕ
 part_sent n i = number_from_bits (λ j. pick (ltb i j) (sent n (86 - j)) (bit_of n j)) 85
 
 module _ (n i : ℕ) where
-  part-bit-lt : (j : ℕ) → pick (ltb i j) (sent n (86 - j)) (bit_of n j) < 2
-  part-bit-lt j = pick_lt (ltb i j) (sent n (86 - j)) (bit_of n j) (sent_lt n (86 - j)) (bit_lt n j)
+  part_bit_lt : (j : ℕ) → pick (ltb i j) (sent n (86 - j)) (bit_of n j) < 2
+  part_bit_lt j = pick_lt (ltb i j) (sent n (86 - j)) (bit_of n j) (sent_lt n (86 - j)) (bit_lt n j)
 
-  part-lt : part_sent n i < 2 ^ 85
+  part_lt : part_sent n i < 2 ^ 85
   unfolding part_sent
-  part-lt = from_lt (λ j. pick (ltb i j) (sent n (86 - j)) (bit_of n j)) part-bit-lt 85
+  part_lt = from_lt (λ j. pick (ltb i j) (sent n (86 - j)) (bit_of n j)) part_bit_lt 85
 
-  bit-part : (j : ℕ) → 1 ≤ j → j ≤ 85 → bit_of (part_sent n i) j ≡ pick (ltb i j) (sent n (86 - j)) (bit_of n j)
+  bit_part : (j : ℕ) → 1 ≤ j → j ≤ 85 → bit_of (part_sent n i) j ≡ pick (ltb i j) (sent n (86 - j)) (bit_of n j)
   unfolding part_sent
-  bit-part = bit_from (λ j. pick (ltb i j) (sent n (86 - j)) (bit_of n j)) part-bit-lt 85
+  bit_part = bit_from (λ j. pick (ltb i j) (sent n (86 - j)) (bit_of n j)) part_bit_lt 85
 
-  bit-part-sent : (j : ℕ) → 1 ≤ j → j ≤ 85 → i < j → bit_of (part_sent n i) j ≡ sent n (86 - j)
-  bit-part-sent j l u h = bit-part j l u ∙ rw (lt-ltb i j h)
+  bit_part_sent : (j : ℕ) → 1 ≤ j → j ≤ 85 → i < j → bit_of (part_sent n i) j ≡ sent n (86 - j)
+  bit_part_sent j l u h = bit_part j l u ∙ rw (lt-ltb i j h)
 
-  bit-part-plain : (j : ℕ) → 1 ≤ j → j ≤ 85 → j ≤ i → bit_of (part_sent n i) j ≡ bit_of n j
-  bit-part-plain j l u h = bit-part j l u ∙ rw (le-ltb i j h)
+  bit_part_plain : (j : ℕ) → 1 ≤ j → j ≤ 85 → j ≤ i → bit_of (part_sent n i) j ≡ bit_of n j
+  bit_part_plain j l u h = bit_part j l u ∙ rw (le-ltb i j h)
 
 -- before bit 85 stands 0, so bit 85 is its own symbol
 pub sent_none : (n : ℕ) → n < 2 ^ 85 → part_sent n 84 ≡ n
 sent_none n h =
-    bits_same 85 (part_sent n 84) n (part-lt n 84) h
+    bits_same 85 (part_sent n 84) n (part_lt n 84) h
     (λ j l u. ⊎_elim
     (λ (q : j ≡ 85). subst (λ (k : ℕ). bit_of (part_sent n 84) k ≡ bit_of n k) (sym q)
-    (omega (arith, bit-part-sent n 84 85 (lit≤ tt) (lit≤ tt) (lit< tt), bit_lt n 85)))
-    (λ (g : j < 85). bit-part-plain n 84 j l u (omega arith))
+    (omega (arith, bit_part_sent n 84 85 (lit≤ tt) (lit≤ tt) (lit< tt), bit_lt n 85)))
+    (λ (g : j < 85). bit_part_plain n 84 j l u (omega arith))
     (eq-or-lt_of_le u))
 
 pub sent_all : (n : ℕ) → part_sent n 0 ≡ write_relative n
 sent_all n =
-    bits_same 85 (part_sent n 0) (write_relative n) (part-lt n 0) (written_lt n)
-    (λ j l u. bit-part-sent n 0 j l u l ∙ sym (bit_written n j l u))
+    bits_same 85 (part_sent n 0) (write_relative n) (part_lt n 0) (written_lt n)
+    (λ j l u. bit_part_sent n 0 j l u l ∙ sym (bit_written n j l u))
 
 pick_same : (b : Bool) (m : ℕ) → pick b m m ≡ m
 pick_same true m = refl
@@ -197,24 +197,24 @@ module _ (n i : ℕ) (l : 1 ≤ i) (u : i ≤ 84) where
   sends y h bits =
       let e : 86 - (i + 1) ≡ 85 - i = omega arith in
       let d : i ≡ 85 - (85 - i) = omega arith in
-      bits_same 85 y (part_sent n (i - 1)) h (part-lt n (i - 1))
+      bits_same 85 y (part_sent n (i - 1)) h (part_lt n (i - 1))
       (λ j lj uj. bits j lj ∙ ⊎_elim
-      (λ (g : j < i). rw (ne_eqb j i (ne_of_lt g)) (omega (arith, bit-part-plain n i j lj uj (omega arith), bit-part-plain n (i - 1) j lj uj (omega arith), bit_lt n j)))
+      (λ (g : j < i). rw (ne_eqb j i (ne_of_lt g)) (omega (arith, bit_part_plain n i j lj uj (omega arith), bit_part_plain n (i - 1) j lj uj (omega arith), bit_lt n j)))
       (⊎_elim
       (λ (q : j ≡ i). subst (λ (k : ℕ). (bit_of (part_sent n i) k + pick (eqb k i) (bit_of (part_sent n i) (i + 1)) 0) % 2 ≡ bit_of (part_sent n (i - 1)) k) (sym q)
       (rw (eq-eqb i i refl)
-      (ap₂ (λ (x y : ℕ). (x + y) % 2) (bit-part-plain n i i l (omega arith) (omega arith))
-      (bit-part-sent n i (i + 1) (omega arith) (omega arith) (omega arith) ∙ ap (sent n) e)
-      ∙ ap (λ (j : ℕ). (bit_of n j + sent n (85 - i)) % 2) d ∙ sym (sent_step n i l (omega arith)) ∙ sym (bit-part-sent n (i - 1) i l (omega arith) (omega arith)))))
-      (λ (g : i < j). rw (ne_eqb j i (ne_of_gt g)) (omega (arith, bit-part-sent n i j lj uj g, bit-part-sent n (i - 1) j lj uj (omega arith), sent_lt n (86 - j)))))
+      (ap₂ (λ (x y : ℕ). (x + y) % 2) (bit_part_plain n i i l (omega arith) (omega arith))
+      (bit_part_sent n i (i + 1) (omega arith) (omega arith) (omega arith) ∙ ap (sent n) e)
+      ∙ ap (λ (j : ℕ). (bit_of n j + sent n (85 - i)) % 2) d ∙ sym (sent_step n i l (omega arith)) ∙ sym (bit_part_sent n (i - 1) i l (omega arith) (omega arith)))))
+      (λ (g : i < j). rw (ne_eqb j i (ne_of_gt g)) (omega (arith, bit_part_sent n i j lj uj g, bit_part_sent n (i - 1) j lj uj (omega arith), sent_lt n (86 - j)))))
       (three j i))
 
-  pub sends-one : bit_of (part_sent n i) (i + 1) ≡ 1 → flip (part_sent n i) i ≡ part_sent n (i - 1)
-  sends-one e =
-      sends (flip (part_sent n i) i) (flip_lt 85 (part_sent n i) i (part-lt n i) l (omega arith))
+  pub sends_one : bit_of (part_sent n i) (i + 1) ≡ 1 → flip (part_sent n i) i ≡ part_sent n (i - 1)
+  sends_one e =
+      sends (flip (part_sent n i) i) (flip_lt 85 (part_sent n i) i (part_lt n i) l (omega arith))
       (λ j lj. rw e (bit_flip (part_sent n i) j i lj l))
 
-  pub sends-zero : (bit_of (part_sent n i) (i + 1) ≡ 1 → ⊥) → part_sent n i ≡ part_sent n (i - 1)
-  sends-zero e =
+  pub sends_zero : (bit_of (part_sent n i) (i + 1) ≡ 1 → ⊥) → part_sent n i ≡ part_sent n (i - 1)
+  sends_zero e =
       let z : bit_of (part_sent n i) (i + 1) ≡ 0 = omega (arith, bit_lt (part_sent n i) (i + 1)) in
-      sends (part_sent n i) (part-lt n i) (λ j lj. rw (z, pick_same (eqb j i) 0) (omega (arith, bit_lt (part_sent n i) j)))
+      sends (part_sent n i) (part_lt n i) (λ j lj. rw (z, pick_same (eqb j i) 0) (omega (arith, bit_lt (part_sent n i) j)))

@@ -9,17 +9,17 @@ use mathlib.Core.List.{List, [], ◌∷◌, ◌++◌}
 use mathlib.Core.Logic.{⊎_elim}
 use lib.ListN.{length}
 use Rattle.fields.specs.Fields.{size_at}
-use Rattle.fields.proofs.Near.{size_in, size-three}
+use Rattle.fields.proofs.Near.{size_in_lem, size_three}
 use Rattle.salvage.specs.declared.Ended.TheVariants.{OutputFull, ListFull}
 use Rattle.salvage.specs.declared.Salvaged.{Salvaged}
 use Rattle.salvage.specs.Items.{Item, Kept, Skipped, resumes, next_place, items_of}
 use Rattle.salvage.specs.Rules.{First}
 use Rattle.salvage.specs.Writing.{fitting, stretches, skips, slots_of, Salvages}
 use Rattle.salvage.specs.Laws.{list_in, Apart, kept_count, StopsAt}
-use Rattle.salvage.proofs.Places.{le_or, resumes-size, resumes-two, next_first}
-use Rattle.salvage.proofs.Items.{all-ind}
+use Rattle.salvage.proofs.Places.{le_or, resumes_size, resumes_two, next_first}
+use Rattle.salvage.proofs.Items.{all_ind}
 use Rattle.salvage.proofs.Rules.{rules}
-use Rattle.salvage.proofs.Ends.{kept_before, skips_before, written-list, end, front_of}
+use Rattle.salvage.proofs.Ends.{kept_before, skips_before, written_list, end, front_of}
 use Rattle.salvage.proofs.Parts.{From, from_less, items_once}
 
 -- ---- the stretches from a place on: how far from it the first may start, and how many there may be
@@ -43,27 +43,27 @@ gaps_bad s p q is l z g f =
       apart = apart_more p (q - p) (stretches is) (rw e far) f.apart;
       from = omega arith;
       one = λ h. absurd (omega (arith, h, z));
-      two = λ h. absurd (omega (arith, resumes-size s p h, z));
+      two = λ h. absurd (omega (arith, resumes_size s p h, z));
       none = λ h. absurd (omega (arith, h, l));
     }
 
 gaps_good : (s : List ℕ) (p : ℕ) (is : List Item) → p < length s → 0 < size_at s p → Gaps s (p + size_at s p) is → Gaps s p (Kept p (size_at s p) ∷ is)
 gaps_good s p is l z f =
     let q = p + size_at s p in
-    let t = size-three s p z in
+    let t = size_three s p z in
     record {
       apart = f.apart;
       from = from_less p q (stretches is) (omega arith) f.from;
       one = λ h. from_less (p + 3) q (stretches is) (omega (arith, t)) f.from;
       two = λ h.
           ⊎_elim (λ (g : 0 < size_at s q). from_less (p + 6) (q + 3) (stretches is) (omega (arith, t)) (f.one g))
-          (λ (g : length s ≤ q). rw (f.none g) tt) (resumes-two s p h);
+          (λ (g : length s ≤ q). rw (f.none g) tt) (resumes_two s p h);
       none = λ h. absurd (omega (arith, h, l));
     }
 
 pub items_apart : (s : List ℕ) → Apart (stretches (items_of s))
 items_apart s =
-    (all-ind s (Gaps s)
+    (all_ind s (Gaps s)
     (λ p l. record { apart = tt; from = tt; one = λ h. tt; two = λ h. tt; none = λ h. refl })
     (λ p is l z f. gaps_bad s p (next_place s p) is l z (next_first s p l) f)
     (gaps_good s)).apart
@@ -92,24 +92,24 @@ few_bad s p q is l z g f =
       any = ⊎_elim (λ (h : length s ≤ q). omega (arith, h, f.any, l))
           (λ (h : q < length s). omega (arith, f.two (g.here h), g.after, h)) (le_or (length s) q);
       one = λ h. absurd (omega (arith, h, z));
-      two = λ h. absurd (omega (arith, resumes-size s p h, z));
+      two = λ h. absurd (omega (arith, resumes_size s p h, z));
     }
 
 few_good : (s : List ℕ) (p : ℕ) (is : List Item) → p < length s → 0 < size_at s p → Few s (p + size_at s p) is → Few s p (Kept p (size_at s p) ∷ is)
 few_good s p is l z f =
     let q = p + size_at s p in
-    let t = size-three s p z in
-    let i = size_in s p z in
+    let t = size_three s p z in
+    let i = size_in_lem s p z in
     record {
       any = omega (arith, f.any, t, i);
       one = λ h. omega (arith, f.any, t, i);
       two = λ h.
-          ⊎_elim (λ (g : 0 < size_at s q). omega (arith, f.one g, t, i)) (λ (g : length s ≤ q). omega (arith, f.any, g, t, i)) (resumes-two s p h);
+          ⊎_elim (λ (g : 0 < size_at s q). omega (arith, f.one g, t, i)) (λ (g : length s ≤ q). omega (arith, f.any, g, t, i)) (resumes_two s p h);
     }
 
 pub few : (s : List ℕ) → 7 * skips (items_of s) ≤ length s + 6
 few s =
-    let f = all-ind s (Few s) (λ p l. record { any = omega arith; one = λ h. omega arith; two = λ h. omega arith })
+    let f = all_ind s (Few s) (λ p l. record { any = omega arith; one = λ h. omega arith; two = λ h. omega arith })
     (λ p is l z f. few_bad s p (next_place s p) is l z (next_first s p l) f) (few_good s) in
     omega (arith, f.any)
 
@@ -119,7 +119,7 @@ module _ (file out list : List ℕ) (r : Salvaged) (out' list' : List ℕ) (h : 
       let w = fitting (length out) (slots_of list) (items_of file) in
       let f = front_of (length out) (slots_of list) (items_of file) in
       let e : stretches (items_of file) ≡ stretches w ++ stretches f.after = ap stretches f.split ∙ stretches_append w f.after in
-      rw (written-list file out list r out' list' h) (apart_front (stretches w) (stretches f.after) (rw e at (items_apart file)))
+      rw (written_list file out list r out' list' h) (apart_front (stretches w) (stretches f.after) (rw e at (items_apart file)))
 
   pub never_44 : length file ≤ length out → (at : ℕ) → r.ended ≡ OutputFull at → ⊥
   never_44 l at e =

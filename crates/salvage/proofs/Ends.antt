@@ -158,20 +158,20 @@ module _ (room slots : ℕ) (is : List Item) where
   abbrev written : List Item
   written = fitting room slots is
 
-  stops-told : (next : ℕ → Item) → StopsAt is room slots next → (e : Ended) → ((n : ℕ) → end_by (next n) ≡ e) → told ≡ e
-  stops-told next x e h =
+  stops_told : (next : ℕ → Item) → StopsAt is room slots next → (e : Ended) → ((n : ℕ) → end_by (next n) ≡ e) → told ≡ e
+  stops_told next x e h =
       ap (end_of room slots) x.split ∙ stop_later room slots x.before (next x.count) x.after x.fit x.full ∙ h x.count
 
-  whole-fit : told ≡ Whole → Fit room slots is
-  whole-fit h = let e = unrefused room slots is h in rw e at (ending room slots is).fit
+  whole_fit : told ≡ Whole → Fit room slots is
+  whole_fit h = let e = unrefused room slots is h in rw e at (ending room slots is).fit
 
-  told-stop : (e : Ended) → (e ≡ Whole → ⊥) → told ≡ e → Stopped room slots is written told
-  told-stop e n h =
+  told_stop : (e : Ended) → (e ≡ Whole → ⊥) → told ≡ e → Stopped room slots is written told
+  told_stop e n h =
       ⊎_elim (λ (x : (written ≡ is) × (told ≡ Whole)). absurd (n (sym h ∙ x.1))) (λ (x : Stopped room slots is written told). x)
       (ending room slots is).either
 
-  output-stops : (at : ℕ) → told ≡ OutputFull at → StopsAt is room slots (Kept at)
-  output-stops at h = let x = told-stop (OutputFull at) (λ e. whole_output at (sym e)) h in by x.next x.after x.split x.full (sym x.told ∙ h)
+  output_stops : (at : ℕ) → told ≡ OutputFull at → StopsAt is room slots (Kept at)
+  output_stops at h = let x = told_stop (OutputFull at) (λ e. whole_output at (sym e)) h in by x.next x.after x.split x.full (sym x.told ∙ h)
     where
       by : (i : Item) (after : List Item) → is ≡ written ++ (i ∷ after) → (Fit room slots (written ++ (i ∷ [])) → ⊥) → end_by i ≡ OutputFull at
           → StopsAt is room slots (Kept at)
@@ -180,8 +180,8 @@ module _ (room slots : ℕ) (is : List Item) where
           rw (← p) (record { before = written; after = after; count = n; split = s; fit = (ending room slots is).fit; full = f })
       by (Skipped a n) after s f e = absurd (output_list at a (sym e))
 
-  list-stops : (at : ℕ) → told ≡ ListFull at → StopsAt is room slots (Skipped at)
-  list-stops at h = let x = told-stop (ListFull at) (λ e. whole_list at (sym e)) h in by x.next x.after x.split x.full (sym x.told ∙ h)
+  list_stops : (at : ℕ) → told ≡ ListFull at → StopsAt is room slots (Skipped at)
+  list_stops at h = let x = told_stop (ListFull at) (λ e. whole_list at (sym e)) h in by x.next x.after x.split x.full (sym x.told ∙ h)
     where
       by : (i : Item) (after : List Item) → is ≡ written ++ (i ∷ after) → (Fit room slots (written ++ (i ∷ [])) → ⊥) → end_by i ≡ ListFull at
           → StopsAt is room slots (Skipped at)
@@ -190,12 +190,12 @@ module _ (room slots : ℕ) (is : List Item) where
           rw (← p) (record { before = written; after = after; count = n; split = s; fit = (ending room slots is).fit; full = f })
       by (Kept a n) after s f e = absurd (output_list a at e)
 
-  pub ends-exactly : Ends is room slots told
-  ends-exactly =
+  pub ends_exactly : Ends is room slots told
+  ends_exactly =
       record {
-        whole = (whole-fit, fit_whole room slots is);
-        output = λ at. (output-stops at, (λ x. stops-told (Kept at) x (OutputFull at) (λ n. refl)));
-        list = λ at. (list-stops at, (λ x. stops-told (Skipped at) x (ListFull at) (λ n. refl)));
+        whole = (whole_fit, fit_whole room slots is);
+        output = λ at. (output_stops at, (λ x. stops_told (Kept at) x (OutputFull at) (λ n. refl)));
+        list = λ at. (list_stops at, (λ x. stops_told (Skipped at) x (ListFull at) (λ n. refl)));
       }
 
 -- ---- the items before the place where it stops are part of all
@@ -250,28 +250,28 @@ module _ (file out list : List ℕ) (r : Salvaged) (out' list' : List ℕ) (h : 
   pub written_is : r.written ≡ length (kept_bytes file items)
   written_is = ap (λ (x : Salvaged). x.written) h.answer
 
-  pub stretches-are : r.stretches ≡ skips items
-  stretches-are = ap (λ (x : Salvaged). x.stretches) h.answer
+  pub stretches_are : r.stretches ≡ skips items
+  stretches_are = ap (λ (x : Salvaged). x.stretches) h.answer
 
-  pub written-bytes : bytes_in r out' ≡ kept_bytes file items
-  written-bytes = rw (written_is, h.output) (take-append_seam (kept_bytes file items) _)
+  pub written_bytes : bytes_in r out' ≡ kept_bytes file items
+  written_bytes = rw (written_is, h.output) (take-append_seam (kept_bytes file items) _)
 
-  pub written-list : list_in r list' ≡ stretches items
-  written-list = rw (stretches-are, h.listed, ← two_skips items) (take-append_seam (stretches items) _)
+  pub written_list : list_in r list' ≡ stretches items
+  written_list = rw (stretches_are, h.listed, ← two_skips items) (take-append_seam (stretches items) _)
 
-  pub left_in : (r.written ≤ length out') × (2 * r.stretches ≤ length list')
-  left_in =
+  pub left_in_lem : (r.written ≤ length out') × (2 * r.stretches ≤ length list')
+  left_in_lem =
       let w = kept_bytes file items in
       let t = stretches items in (
         omega (arith, written_is, ap length h.output, length-append w (drop (length w) out)),
-        omega (arith, stretches-are, two_skips items, ap length h.listed, length-append t (drop (length t) list)),
+        omega (arith, stretches_are, two_skips items, ap length h.listed, length-append t (drop (length t) list)),
       )
 
   pub end : Ends (items_of file) (length out) (slots_of list) r.ended
-  end = rw ended_is (ends-exactly (length out) (slots_of list) (items_of file))
+  end = rw ended_is (ends_exactly (length out) (slots_of list) (items_of file))
 
-  pub follow-written : Follow 0 items (stop_of r.ended (length file))
-  follow-written = rw ended_is (follow_fitting 0 (length file) (items_of file) (length out) (slots_of list) (rules file).follow)
+  pub follow_written : Follow 0 items (stop_of r.ended (length file))
+  follow_written = rw ended_is (follow_fitting 0 (length file) (items_of file) (length out) (slots_of list) (rules file).follow)
 
-  pub stop-in : stop_of r.ended (length file) ≤ length file
-  stop-in = rw ended_is (stop_le 0 (length file) (items_of file) (length out) (slots_of list) (rules file).follow)
+  pub stop_in_lem : stop_of r.ended (length file) ≤ length file
+  stop_in_lem = rw ended_is (stop_le 0 (length file) (items_of file) (length out) (slots_of list) (rules file).follow)

@@ -11,7 +11,7 @@ use lib.ListN.{length}
 use borrow.Author.Tests.{leb-true, leb-false, eqb-true, eqb-false, le-leb, lt-leb, eq-eqb, ne_eqb}
 use Rattle.strings.specs.Pick.{pick}
 use Rattle.fields.specs.Fields.{size_at}
-use Rattle.fields.proofs.Near.{size_in}
+use Rattle.fields.proofs.Near.{size_in_lem}
 use Rattle.salvage.specs.Items.{Item, Kept, Skipped, next_place, items_from, items_of}
 use Rattle.salvage.proofs.Places.{not_zero, next_in}
 
@@ -32,21 +32,21 @@ by_case P false true a b c f g h = g refl refl
 by_case P false false a b c f g h = h refl refl
 
 module _ (s : List ℕ) (P : ℕ → List Item → Type 0) (at_end : AtEnd s P) (at-bad : AtBad s P) (at-good : AtGood s P) where
-  pub items-ind : (more at : ℕ) → length s ≤ at + more → P at (items_from s more at)
-  items-ind zero at h = at_end at (omega arith)
-  items-ind (suc more) at h =
+  pub items_ind : (more at : ℕ) → length s ≤ at + more → P at (items_from s more at)
+  items_ind zero at h = at_end at (omega arith)
+  items_ind (suc more) at h =
       by_case (P at) (leb (length s) at) (eqb (size_at s at) 0) [] (Skipped at (next_place s at - at) ∷ items_from s more (next_place s at))
       (Kept at (size_at s at) ∷ items_from s more (at + size_at s at))
       (λ t. at_end at (leb-true (length s) at t))
       (λ t u.
       let l = leb-false (length s) at t in
       at-bad at (items_from s more (next_place s at)) l (eqb-true (size_at s at) 0 u)
-      (items-ind more (next_place s at) (omega (arith, (next_in s at l).0))))
+      (items_ind more (next_place s at) (omega (arith, (next_in s at l).0))))
       (λ t u.
       let l = leb-false (length s) at t in
       let z = not_zero (size_at s at) (eqb-false (size_at s at) 0 u) in
       at-good at (items_from s more (at + size_at s at)) l z
-      (items-ind more (at + size_at s at) (omega (arith, z))))
+      (items_ind more (at + size_at s at) (omega (arith, z))))
 
 -- ---- the items from a place on do not depend on how many are allowed
 pub items_end : (s : List ℕ) (n p : ℕ) → length s ≤ p → items_from s n p ≡ []
@@ -75,7 +75,7 @@ same_good s p is l z f (suc n) h =
     ap (λ (x : List Item). Kept p (size_at s p) ∷ x) (f n (omega (arith, z))) ∙ sym (items_good s n p l (λ e. omega (arith, e, z)))
 
 pub same_items : (s : List ℕ) (m n p : ℕ) → length s ≤ p + m → length s ≤ p + n → items_from s m p ≡ items_from s n p
-same_items s m n p h k = items-ind s (Same s) (λ q l i g. sym (items_end s i q l)) (same_bad s) (same_good s) m p h n k
+same_items s m n p h k = items_ind s (Same s) (λ q l i g. sym (items_end s i q l)) (same_bad s) (same_good s) m p h n k
 
 -- ---- as many as are left
 abbrev pub rest : List ℕ → ℕ → List Item
@@ -106,12 +106,12 @@ rest_good s p n h e z =
 
 -- the same induction over all of them
 module _ (s : List ℕ) (P : ℕ → List Item → Type 0) (at_end : AtEnd s P) (at-bad : AtBad s P) (at-good : AtGood s P) where
-  pub rest-ind : (at : ℕ) → P at (rest s at)
-  rest-ind at = items-ind s P at_end at-bad at-good (length s - at) at (omega arith)
+  pub rest_ind : (at : ℕ) → P at (rest s at)
+  rest_ind at = items_ind s P at_end at-bad at-good (length s - at) at (omega arith)
 
-  pub all-ind : P 0 (items_of s)
+  pub all_ind : P 0 (items_of s)
   unfolding items_of
-  all-ind = items-ind s P at_end at-bad at-good (length s) 0 (omega arith)
+  all_ind = items_ind s P at_end at-bad at-good (length s) 0 (omega arith)
 
 pub field_in : (s : List ℕ) (at n : ℕ) → n ≡ size_at s at → (n ≡ 0 → ⊥) → at + n ≤ length s
-field_in s at n e z = rw e (size_in s at (rw (← e) (not_zero n z)))
+field_in s at n e z = rw e (size_in_lem s at (rw (← e) (not_zero n z)))

@@ -10,7 +10,7 @@ use Rattle.salvage.proofs.Ends.{end}
 use Rattle.salvage.proofs.Parts.{parts, within, all_parts}
 use Rattle.salvage.proofs.Apart.{apart, never_44, never_45}
 use Rattle.salvage.proofs.Written.{sound, calls, undamaged}
-use Rattle.salvage.proofs.Moved.{rest-told, goes_on, gets_on}
+use Rattle.salvage.proofs.Moved.{rest_told, goes_on, gets_on}
 
 once : (file out list : List ℕ) (r q : Salvaged) (out' out'' list' list'' : List ℕ) → Salvages file out list r out' list'
     → Salvages file out list q out'' list'' → (r ≡ q) × ((out' ≡ out'') × (list' ≡ list''))
@@ -32,7 +32,7 @@ laws =
       end = end;
       never_44 = never_44;
       never_45 = never_45;
-      rest = rest-told;
+      rest = rest_told;
       goes_on = goes_on;
       gets_on = gets_on;
       once = once;

@@ -24,18 +24,18 @@ put_law s out ys at n w h k e =
 
 -- what was laid in at w
 module _ (out x : List ℕ) (w n : ℕ) (h : w ≤ length out) (e : length x ≡ n) where
-  pub take-laid : take (w + n) (take w out ++ (x ++ drop (w + n) out)) ≡ take w out ++ x
-  take-laid =
+  pub take_laid : take (w + n) (take w out ++ (x ++ drop (w + n) out)) ≡ take w out ++ x
+  take_laid =
       let l : length (take w out ++ x) ≡ w + n = length-append (take w out) x ∙ (rw (length-take-le w out h, e) refl) in
       rw (← append_assoc (take w out) x (drop (w + n) out)) (take_at (take w out ++ x) (drop (w + n) out) (w + n) l)
 
-  pub drop-laid : drop (w + n) (take w out ++ (x ++ drop (w + n) out)) ≡ drop (w + n) out
-  drop-laid =
+  pub drop_laid : drop (w + n) (take w out ++ (x ++ drop (w + n) out)) ≡ drop (w + n) out
+  drop_laid =
       let l : length (take w out ++ x) ≡ w + n = length-append (take w out) x ∙ (rw (length-take-le w out h, e) refl) in
       rw (← append_assoc (take w out) x (drop (w + n) out)) (drop_at (take w out ++ x) (drop (w + n) out) (w + n) l)
 
-  pub length-laid : w + n ≤ length out → length (take w out ++ (x ++ drop (w + n) out)) ≡ length out
-  length-laid k =
+  pub length_laid : w + n ≤ length out → length (take w out ++ (x ++ drop (w + n) out)) ≡ length out
+  length_laid k =
       omega (arith, length-append (take w out) (x ++ drop (w + n) out), length-append x (drop (w + n) out), length-take-le w out h, length-drop (w + n) out, e)
 
 -- two numbers stored

@@ -22,9 +22,9 @@ use Rattle.salvage.specs.Items.{Item, Kept, Skipped, count_of, two_follow, one_e
 use Rattle.salvage.specs.Rules.{Follow}
 use Rattle.salvage.specs.Writing.{fitting, end_of, kept_bytes, stretches, slots_of, Salvages}
 use Rattle.salvage.specs.Laws.{bytes_in, list_in, stop_of, moved_items, onward, GoesOn, ends, goes}
-use Rattle.salvage.proofs.Items.{rest, rest_all, rest_end, rest_bad, rest_good, rest-ind}
+use Rattle.salvage.proofs.Items.{rest, rest_all, rest_end, rest_bad, rest_good, rest_ind}
 use Rattle.salvage.proofs.Rules.{follow_le}
-use Rattle.salvage.proofs.Ends.{ended_is, written-bytes, written-list, follow-written, unrefused}
+use Rattle.salvage.proofs.Ends.{ended_is, written_bytes, written_list, follow_written, unrefused}
 use Rattle.salvage.proofs.Apart.{stretches_append}
 
 -- ---- a place of a file is a place of what is left of it
@@ -32,59 +32,59 @@ module _ (s : List ℕ) (p : ℕ) where
   abbrev left : List ℕ
   left = drop p s
 
-  pub size-moved : (k : ℕ) → size_at s (p + k) ≡ size_at left k
-  size-moved k = ap size_in (sym (drop-drop k p s))
+  pub size_moved : (k : ℕ) → size_at s (p + k) ≡ size_at left k
+  size_moved k = ap size_in (sym (drop-drop k p s))
 
-  pub resumes-moved : (k : ℕ) → resumes s (p + k) ≡ resumes left k
+  pub resumes_moved : (k : ℕ) → resumes s (p + k) ≡ resumes left k
   unfolding resumes
-  resumes-moved k = ap (λ (l : List ℕ). two_follow l || one_ends l) (sym (drop-drop k p s))
+  resumes_moved k = ap (λ (l : List ℕ). two_follow l || one_ends l) (sym (drop-drop k p s))
 
-  pick-add : (t : Bool) (a b : ℕ) → pick t (p + a) (p + b) ≡ p + pick t a b
-  pick-add true a b = refl
-  pick-add false a b = refl
+  pick_add : (t : Bool) (a b : ℕ) → pick t (p + a) (p + b) ≡ p + pick t a b
+  pick_add true a b = refl
+  pick_add false a b = refl
 
-  search-moved : (n k : ℕ) → search_from s n (p + k) ≡ p + search_from left n k
-  search-moved zero k = refl
-  search-moved (suc n) k =
+  search_moved : (n k : ℕ) → search_from s n (p + k) ≡ p + search_from left n k
+  search_moved zero k = refl
+  search_moved (suc n) k =
       let e : suc (p + k) ≡ p + suc k = omega arith in
-      rw (resumes-moved k, e, search-moved n (suc k)) (pick-add (resumes left k) k (search_from left n (suc k)))
+      rw (resumes_moved k, e, search_moved n (suc k)) (pick_add (resumes left k) k (search_from left n (suc k)))
 
-  pub next-moved : (k : ℕ) → next_place s (p + k) ≡ p + next_place left k
+  pub next_moved : (k : ℕ) → next_place s (p + k) ≡ p + next_place left k
   unfolding next_place
-  next-moved k =
+  next_moved k =
       let l : length s - suc (p + k) ≡ length left - suc k = omega (arith, length-drop p s) in
       let e : suc (p + k) ≡ p + suc k = omega arith in
-      rw (l, e) (search-moved (length left - suc k) (suc k))
+      rw (l, e) (search_moved (length left - suc k) (suc k))
 
-  leb-moved : (k : ℕ) → leb (length s) (p + k) ≡ leb (length left) k
-  leb-moved k = by (leb (length left) k) refl
+  leb_moved : (k : ℕ) → leb (length s) (p + k) ≡ leb (length left) k
+  leb_moved k = by (leb (length left) k) refl
     where
       by : (t : Bool) → leb (length left) k ≡ t → leb (length s) (p + k) ≡ t
       by true e = le-leb (length s) (p + k) (omega (arith, leb-true (length left) k e, length-drop p s))
       by false e = lt-leb (length s) (p + k) (omega (arith, leb-false (length left) k e, length-drop p s))
 
-  moved-pick : (t u : Bool) (b c : List Item) → pick t [] (pick u (moved_items p b) (moved_items p c)) ≡ moved_items p (pick t [] (pick u b c))
-  moved-pick true u b c = refl
-  moved-pick false true b c = refl
-  moved-pick false false b c = refl
+  moved_pick : (t u : Bool) (b c : List Item) → pick t [] (pick u (moved_items p b) (moved_items p c)) ≡ moved_items p (pick t [] (pick u b c))
+  moved_pick true u b c = refl
+  moved_pick false true b c = refl
+  moved_pick false false b c = refl
 
-  pub items-moved : (n k : ℕ) → items_from s n (p + k) ≡ moved_items p (items_from left n k)
-  items-moved zero k = refl
-  items-moved (suc n) k =
+  pub items_moved : (n k : ℕ) → items_from s n (p + k) ≡ moved_items p (items_from left n k)
+  items_moved zero k = refl
+  items_moved (suc n) k =
       let q = next_place left k in
       let m = size_at left k in
       let d : p + q - (p + k) ≡ q - k = omega arith in
       let a : p + k + m ≡ p + (k + m) = omega arith in
-      rw (leb-moved k, next-moved k, size-moved k, d, a, items-moved n q, items-moved n (k + m))
-      (moved-pick (leb (length left) k) (eqb m 0) (Skipped k (q - k) ∷ items_from left n q) (Kept k m ∷ items_from left n (k + m)))
+      rw (leb_moved k, next_moved k, size_moved k, d, a, items_moved n q, items_moved n (k + m))
+      (moved_pick (leb (length left) k) (eqb m 0) (Skipped k (q - k) ∷ items_from left n q) (Kept k m ∷ items_from left n (k + m)))
 
-  pub rest-moved : (k : ℕ) → rest s (p + k) ≡ moved_items p (rest left k)
-  rest-moved k =
+  pub rest_moved : (k : ℕ) → rest s (p + k) ≡ moved_items p (rest left k)
+  rest_moved k =
       let l : length s - (p + k) ≡ length left - k = omega (arith, length-drop p s) in
-      rw l (items-moved (length left - k) k)
+      rw l (items_moved (length left - k) k)
 
-  pub rest-left : rest s p ≡ moved_items p (items_of left)
-  rest-left = ap (rest s) (sym (add-zero p)) ∙ rest-moved 0 ∙ ap (moved_items p) (rest_all left)
+  pub rest_left : rest s p ≡ moved_items p (items_of left)
+  rest_left = ap (rest s) (sym (add-zero p)) ∙ rest_moved 0 ∙ ap (moved_items p) (rest_all left)
 
 -- ---- what is not written is the rest from the byte told
 record Splits (s : List ℕ) (p : ℕ) (is : List Item) : Type 0 where
@@ -98,7 +98,7 @@ split_pick s p false i is w e e' r h f = r ∙ ap (rest s) (sym h)
 
 splits : (s : List ℕ) (p : ℕ) → Splits s p (rest s p)
 splits s =
-    rest-ind s (Splits s)
+    rest_ind s (Splits s)
     (λ p l. record { is_rest = sym (rest_end s p l); split = λ room slots. sym (rest_end s (length s) (omega arith)) })
     (λ p is l z f.
     let c = next_place s p - p in
@@ -146,17 +146,17 @@ module _ (file out list : List ℕ) (r : Salvaged) (out' list' : List ℕ) (h : 
   abbrev written : List Item
   written = fitting (length out) (slots_of list) (items_of file)
 
-  pub split-told : items_of file ≡ written ++ rest file stop
-  split-told =
+  pub split_told : items_of file ≡ written ++ rest file stop
+  split_told =
       rw (ended_is file out list r out' list' h, ← rest_all file) ((splits file 0).split (length out) (slots_of list))
 
-  pub rest-told : items_of file ≡ written ++ moved_items stop (items_of (drop stop file))
-  rest-told = split-told ∙ ap (λ (x : List Item). written ++ x) (rest-left file stop)
+  pub rest_told : items_of file ≡ written ++ moved_items stop (items_of (drop stop file))
+  rest_told = split_told ∙ ap (λ (x : List Item). written ++ x) (rest_left file stop)
 
   -- something is written where there is room for any field and for one stretch
-  first-in : (i : Item) (is : List Item) → written ≡ i ∷ is → 0 < stop
-  first-in i is e =
-      let f : Follow 0 (i ∷ is) stop = rw e at (follow-written file out list r out' list' h) in
+  first_in : (i : Item) (is : List Item) → written ≡ i ∷ is → 0 < stop
+  first_in i is e =
+      let f : Follow 0 (i ∷ is) stop = rw e at (follow_written file out list r out' list' h) in
       omega (arith, f.1.0, follow_le (0 + count_of i) stop is f.1.1)
 
   pub gets_on : Bytes file → 0 < length file → 65538 ≤ length out → 2 ≤ length list → 0 < stop
@@ -164,11 +164,11 @@ module _ (file out list : List ℕ) (r : Salvaged) (out' list' : List ℕ) (h : 
     where
       by : (n : ℕ) → size_at file 0 ≡ n → 0 < stop
       by zero e =
-          first-in (Skipped 0 (next_place file 0 - 0)) (fitting (length out) (slots_of list - 1) (rest file (next_place file 0)))
+          first_in (Skipped 0 (next_place file 0 - 0)) (fitting (length out) (slots_of list - 1) (rest file (next_place file 0)))
           (rw (← rest_all file, rest_bad file 0 l e) (rw (le-leb 1 (slots_of list) (omega (arith, k))) refl))
       by (suc n) e =
           let m : suc n ≤ length out = omega (arith, e, o, size_small file 0 b (omega (arith, e))) in
-          first-in (Kept 0 (suc n)) (fitting (length out - suc n) (slots_of list) (rest file (0 + suc n)))
+          first_in (Kept 0 (suc n)) (fitting (length out - suc n) (slots_of list) (rest file (0 + suc n)))
           (rw (← rest_all file, rest_good file 0 (suc n) l (sym e) (λ z. omega (arith, z))) (rw (le-leb (suc n) (length out) m) refl))
 
 -- ---- a caller that goes on gets all that is kept and all that is skipped from its place on
@@ -179,36 +179,36 @@ module _ (file : List ℕ) (at : ℕ) (out list : List ℕ) (r : Salvaged) (out'
   abbrev here : List Item
   here = moved_items at (fitting (length out) (slots_of list) (items_of (drop at file)))
 
-  here-bytes : bytes_in r out' ≡ kept_bytes file here
-  here-bytes = written-bytes (drop at file) out list r out' list' h ∙ moved_bytes file at (fitting (length out) (slots_of list) (items_of (drop at file)))
+  here_bytes : bytes_in r out' ≡ kept_bytes file here
+  here_bytes = written_bytes (drop at file) out list r out' list' h ∙ moved_bytes file at (fitting (length out) (slots_of list) (items_of (drop at file)))
 
-  here-list : onward at (list_in r list') ≡ stretches here
-  here-list =
-      ap (onward at) (written-list (drop at file) out list r out' list' h) ∙ moved_list at (fitting (length out) (slots_of list) (items_of (drop at file)))
+  here_list : onward at (list_in r list') ≡ stretches here
+  here_list =
+      ap (onward at) (written_list (drop at file) out list r out' list' h) ∙ moved_list at (fitting (length out) (slots_of list) (items_of (drop at file)))
 
-  here-then : rest file at ≡ here ++ rest file (at + stop_of r.ended (length (drop at file)))
-  here-then =
+  here_then : rest file at ≡ here ++ rest file (at + stop_of r.ended (length (drop at file)))
+  here_then =
       let stop = stop_of r.ended (length (drop at file)) in
-      rest-left file at ∙ ap (moved_items at) (split-told (drop at file) out list r out' list' h)
+      rest_left file at ∙ ap (moved_items at) (split_told (drop at file) out list r out' list' h)
       ∙ moved_append at (fitting (length out) (slots_of list) (items_of (drop at file))) (rest (drop at file) stop)
-      ∙ ap (λ (x : List Item). here ++ x) (sym (rest-moved file at stop))
+      ∙ ap (λ (x : List Item). here ++ x) (sym (rest_moved file at stop))
 
   gets_more : (bytes told : List ℕ) → Gets file (at + stop_of r.ended (length (drop at file))) bytes told
       → Gets file at (bytes_in r out' ++ bytes) (onward at (list_in r list') ++ told)
   gets_more bytes told g =
       let more = rest file (at + stop_of r.ended (length (drop at file))) in (
-        ap₂ (λ (x y : List ℕ). x ++ y) here-bytes g.0 ∙ sym (bytes_append file here more) ∙ ap (kept_bytes file) (sym here-then),
-        ap₂ (λ (x y : List ℕ). x ++ y) here-list g.1 ∙ sym (stretches_append here more) ∙ ap stretches (sym here-then),
+        ap₂ (λ (x y : List ℕ). x ++ y) here_bytes g.0 ∙ sym (bytes_append file here more) ∙ ap (kept_bytes file) (sym here_then),
+        ap₂ (λ (x y : List ℕ). x ++ y) here_list g.1 ∙ sym (stretches_append here more) ∙ ap stretches (sym here_then),
       )
 
-  gets-all : r.ended ≡ Whole → Gets file at (bytes_in r out') (onward at (list_in r list'))
-  gets-all e =
+  gets_all : r.ended ≡ Whole → Gets file at (bytes_in r out') (onward at (list_in r list'))
+  gets_all e =
       let w = unrefused (length out) (slots_of list) (items_of (drop at file)) (sym (ended_is (drop at file) out list r out' list' h) ∙ e) in
-      let i : here ≡ rest file at = ap (moved_items at) w ∙ sym (rest-left file at) in
-      (here-bytes ∙ ap (kept_bytes file) i, here-list ∙ ap stretches i)
+      let i : here ≡ rest file at = ap (moved_items at) w ∙ sym (rest_left file at) in
+      (here_bytes ∙ ap (kept_bytes file) i, here_list ∙ ap stretches i)
 
 gets : {file : List ℕ} {at : ℕ} {bytes told : List ℕ} → GoesOn file at bytes told → Gets file at bytes told
-gets {file} (ends at out list r out' list' h e) = gets-all file at out list r out' list' h e
+gets {file} (ends at out list r out' list' h e) = gets_all file at out list r out' list' h e
 gets {file} (goes at out list r out' list' bytes told h g) = gets_more file at out list r out' list' h bytes told (gets g)
 
 pub goes_on : (file bytes told : List ℕ) → GoesOn file 0 bytes told → (bytes ≡ kept_bytes file (items_of file)) × (told ≡ stretches (items_of file))

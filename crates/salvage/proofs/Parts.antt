@@ -15,7 +15,7 @@ use Rattle.salvage.specs.Rules.{Follow}
 use Rattle.salvage.specs.Writing.{kept_bytes, stretches, slots_of, Salvages}
 use Rattle.salvage.specs.Laws.{bytes_in, list_in, stop_of, together, skipped_count, kept_count, Parts}
 use Rattle.salvage.proofs.Rules.{follow_le}
-use Rattle.salvage.proofs.Ends.{ending, items, written_is, stretches-are, written-bytes, written-list, follow-written, stop-in}
+use Rattle.salvage.proofs.Ends.{ending, items, written_is, stretches_are, written_bytes, written_list, follow_written, stop_in_lem}
 
 -- ---- a list whose first stretch starts no earlier than this place
 abbrev pub From : ℕ → List ℕ → Type 0
@@ -89,14 +89,14 @@ module _ (file out list : List ℕ) (r : Salvaged) (out' list' : List ℕ) (h : 
   written = items file out list r out' list' h
 
   follows : Follow 0 written stop
-  follows = follow-written file out list r out' list' h
+  follows = follow_written file out list r out' list' h
 
   pub parts : Parts file r out' list'
   parts =
       let z : stop - 0 ≡ stop = omega arith in
-      let k = stop-in file out list r out' list' h in
-      let b = written-bytes file out list r out' list' h in
-      let l = written-list file out list r out' list' h in
+      let k = stop_in_lem file out list r out' list' h in
+      let b = written_bytes file out list r out' list' h in
+      let l = written_list file out list r out' list' h in
       record {
         in_order_lem = ap₂ (together file 0) b l ∙ items_together file 0 stop written follows k ∙ ap (λ (n : ℕ). take n file) z;
         each_once =
@@ -106,8 +106,8 @@ module _ (file out list : List ℕ) (r : Salvaged) (out' list' : List ℕ) (h : 
   pub within : (r.written ≤ length out) × (2 * r.stretches ≤ length list)
   within =
       let f = (ending (length out) (slots_of list) (items_of file)).fit in (
-        omega (arith, written_is file out list r out' list' h, kept_long file 0 stop written follows (stop-in file out list r out' list' h), f.0),
-        omega (arith, stretches-are file out list r out' list' h, f.1),
+        omega (arith, written_is file out list r out' list' h, kept_long file 0 stop written follows (stop_in_lem file out list r out' list' h), f.0),
+        omega (arith, stretches_are file out list r out' list' h, f.1),
       )
 
   pub all_parts : r.ended ≡ Whole → together file 0 (bytes_in r out') (list_in r list') ≡ file

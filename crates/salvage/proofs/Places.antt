@@ -48,34 +48,34 @@ module _ (s : List ℕ) (at : ℕ) where
   abbrev here : List ℕ
   here = drop at s
 
-  behind-is : behind here ≡ drop (at + size_at s at) s
-  behind-is = drop-drop (size_at s at) at s
+  behind_is : behind here ≡ drop (at + size_at s at) s
+  behind_is = drop-drop (size_at s at) at s
 
-  behind-long : length (behind here) ≡ length s - at - size_at s at
-  behind-long = omega (arith, length-drop (size_at s at) here, length-drop at s)
+  behind_long : length (behind here) ≡ length s - at - size_at s at
+  behind_long = omega (arith, length-drop (size_at s at) here, length-drop at s)
 
-  pub resumes-none : size_at s at ≡ 0 → false ≡ resumes s at
+  pub resumes_none : size_at s at ≡ 0 → false ≡ resumes s at
   unfolding resumes
-  resumes-none z = rw (bad_zero here z) refl
+  resumes_none z = rw (bad_zero here z) refl
 
-  or-true : (b : Bool) → true ≡ (b || true)
-  or-true true = refl
-  or-true false = refl
+  or_true : (b : Bool) → true ≡ (b || true)
+  or_true true = refl
+  or_true false = refl
 
-  pub resumes-end : (size_at s at ≡ 0 → ⊥) → at + size_at s at ≡ length s → true ≡ resumes s at
+  pub resumes_end : (size_at s at ≡ 0 → ⊥) → at + size_at s at ≡ length s → true ≡ resumes s at
   unfolding resumes
-  resumes-end z e =
-      rw (good_more here z, eq-eqb (length (behind here)) 0 (omega (arith, behind-long, e))) (or-true (is_good (behind here)))
+  resumes_end z e =
+      rw (good_more here z, eq-eqb (length (behind here)) 0 (omega (arith, behind_long, e))) (or_true (is_good (behind here)))
 
-  or-false : (b : Bool) → b ≡ (b || false)
-  or-false true = refl
-  or-false false = refl
+  or_false : (b : Bool) → b ≡ (b || false)
+  or_false true = refl
+  or_false false = refl
 
-  pub resumes-next : (size_at s at ≡ 0 → ⊥) → at + size_at s at < length s → not (eqb (size_at s (at + size_at s at)) 0) ≡ resumes s at
+  pub resumes_next : (size_at s at ≡ 0 → ⊥) → at + size_at s at < length s → not (eqb (size_at s (at + size_at s at)) 0) ≡ resumes s at
   unfolding resumes
-  resumes-next z e =
-      rw (good_more here z, ne_eqb (length (behind here)) 0 (λ q. omega (arith, q, behind-long, e)))
-      (good_by_size (drop (at + size_at s at) s) ∙ ap is_good (sym behind-is) ∙ or-false (is_good (behind here)))
+  resumes_next z e =
+      rw (good_more here z, ne_eqb (length (behind here)) 0 (λ q. omega (arith, q, behind_long, e)))
+      (good_by_size (drop (at + size_at s at) s) ∙ ap is_good (sym behind_is) ∙ or_false (is_good (behind here)))
 
   -- what is known where it goes on: a good field, and behind it the end or another
   both : (g h e : Bool) → ((g && h) || (g && e)) ≡ true → (g ≡ true) × ((h ≡ true) ⊎ (e ≡ true))
@@ -86,15 +86,15 @@ module _ (s : List ℕ) (at : ℕ) where
   some_size : (rest : List ℕ) → is_good rest ≡ true → 0 < size_in rest
   some_size rest e = omega (arith, size_is rest e)
 
-  pub resumes-size : resumes s at ≡ true → 0 < size_at s at
+  pub resumes_size : resumes s at ≡ true → 0 < size_at s at
   unfolding resumes
-  resumes-size p = some_size here (both (is_good here) (is_good (behind here)) (eqb (length (behind here)) 0) p).0
+  resumes_size p = some_size here (both (is_good here) (is_good (behind here)) (eqb (length (behind here)) 0) p).0
 
-  pub resumes-two : resumes s at ≡ true → (0 < size_at s (at + size_at s at)) ⊎ (length s ≤ at + size_at s at)
+  pub resumes_two : resumes s at ≡ true → (0 < size_at s (at + size_at s at)) ⊎ (length s ≤ at + size_at s at)
   unfolding resumes
-  resumes-two p =
-      ⊎_elim (λ (h : is_good (behind here) ≡ true). inl (some_size (drop (at + size_at s at) s) (ap is_good (sym behind-is) ∙ h)))
-      (λ (h : eqb (length (behind here)) 0 ≡ true). inr (omega (arith, eqb-true (length (behind here)) 0 h, behind-long)))
+  resumes_two p =
+      ⊎_elim (λ (h : is_good (behind here) ≡ true). inl (some_size (drop (at + size_at s at) s) (ap is_good (sym behind_is) ∙ h)))
+      (λ (h : eqb (length (behind here)) 0 ≡ true). inr (omega (arith, eqb-true (length (behind here)) 0 h, behind_long)))
       (both (is_good here) (is_good (behind here)) (eqb (length (behind here)) 0) p).1
 
 -- ---- the search
@@ -120,14 +120,14 @@ module _ (s : List ℕ) (q : ℕ) where
   one_more_lem : q < length s → length s - q ≡ suc (length s - suc q)
   one_more_lem h = omega arith
 
-  pub search-here : q < length s → resumes s q ≡ true → search s q ≡ q
-  search-here h e = rw (one_more_lem h) (ap (λ (t : Bool). pick t q (search_from s (length s - suc q) (suc q))) e)
+  pub search_here : q < length s → resumes s q ≡ true → search s q ≡ q
+  search_here h e = rw (one_more_lem h) (ap (λ (t : Bool). pick t q (search_from s (length s - suc q) (suc q))) e)
 
-  pub search-on : q < length s → resumes s q ≡ false → search s q ≡ search s (suc q)
-  search-on h e = rw (one_more_lem h) (ap (λ (t : Bool). pick t q (search_from s (length s - suc q) (suc q))) e)
+  pub search_on : q < length s → resumes s q ≡ false → search s q ≡ search s (suc q)
+  search_on h e = rw (one_more_lem h) (ap (λ (t : Bool). pick t q (search_from s (length s - suc q) (suc q))) e)
 
-  pub search-end : length s ≤ q → search s q ≡ q
-  search-end h = let l : length s - q ≡ 0 = omega arith in rw l refl
+  pub search_end : length s ≤ q → search s q ≡ q
+  search_end h = let l : length s - q ≡ 0 = omega arith in rw l refl
 
 -- ---- it ends at the first place where it goes on, or at the end of the file
 go_first : (s : List ℕ) (n at k : ℕ) (t : Bool) → resumes s at ≡ t → ((j : ℕ) → suc at ≤ j → j < search_from s n (suc at) → resumes s j ≡ false)

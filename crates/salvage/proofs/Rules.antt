@@ -7,13 +7,13 @@ use mathlib.Core.Path.{◌≡◌, refl, sym, ap, ◌∙◌}
 use mathlib.Core.List.{List, [], ◌∷◌}
 use lib.ListN.{length}
 use Rattle.fields.specs.Fields.{size_at}
-use Rattle.fields.proofs.Near.{size_in}
+use Rattle.fields.proofs.Near.{size_in_lem}
 use Rattle.salvage.specs.declared.Salvaged.{Salvaged}
 use Rattle.salvage.specs.Items.{Item, Kept, Skipped, count_of, next_place, items_from, items_of}
 use Rattle.salvage.specs.Rules.{Follow, First, Right, Keeps}
 use Rattle.salvage.specs.Writing.{Writes, Salvages}
 use Rattle.salvage.proofs.Places.{next_in, next_first, first_same}
-use Rattle.salvage.proofs.Items.{items_end, items_bad, items_good, all-ind}
+use Rattle.salvage.proofs.Items.{items_end, items_bad, items_good, all_ind}
 
 pub follow_le : (p e : ℕ) (is : List Item) → Follow p is e → p ≤ e
 follow_le p e [] f = omega arith
@@ -22,17 +22,17 @@ follow_le p e (i ∷ is) f = omega (arith, follow_le (p + count_of i) e is f.1.1
 -- ---- the items keep the rules
 follow_all : (s : List ℕ) → 0 ≤ length s → Follow 0 (items_of s) (length s)
 follow_all s =
-    all-ind s (λ p is. p ≤ length s → Follow p is (length s))
+    all_ind s (λ p is. p ≤ length s → Follow p is (length s))
     (λ p e l. omega arith)
     (λ p is l z f m.
     let n = next_in s p l in
     let e : p + (next_place s p - p) ≡ next_place s p = omega (arith, n.0) in
     (refl, (omega (arith, n.0), rw e (f n.1))))
-    (λ p is l z f m. (refl, (z, f (size_in s p z))))
+    (λ p is l z f m. (refl, (z, f (size_in_lem s p z))))
 
 right_all : (s : List ℕ) → Right s (items_of s)
 right_all s =
-    all-ind s (λ p is. Right s is)
+    all_ind s (λ p is. Right s is)
     (λ p l. tt)
     (λ p is l z f.
     let n = next_in s p l in

@@ -16,7 +16,7 @@ use Rattle.salvage.specs.Items.{Item, Kept, Skipped, next_place, items_of}
 use Rattle.salvage.specs.Writing.{fitting, end_of, kept_bytes, stretches, skips, slots_of, laid, answer_of, Salvages}
 use Rattle.salvage.proofs.Places.{next_in}
 use Rattle.salvage.proofs.Items.{rest, rest_all, rest_end, rest_bad, rest_good, field_in}
-use Rattle.salvage.proofs.Lists.{take-laid, drop-laid, length-laid}
+use Rattle.salvage.proofs.Lists.{take_laid, drop_laid, length_laid}
 
 -- what is still to be written from a place, with w bytes and k stretches written
 abbrev pub left : (s out list : List ℕ) (at w k : ℕ) → List Item
@@ -76,17 +76,17 @@ module _ {s out₀ list₀ out list : List ℕ} {at w k : ℕ} (st : State s out
     keep-long = length-take-le n (drop at s) (rw length-drop (omega (arith, keep-in)))
 
     keep-take : take (w + n) out' ≡ take w out ++ take n (drop at s)
-    keep-take = ap (take (w + n)) o ∙ take-laid out (take n (drop at s)) w n (omega (arith, st.w_in, st.out_len)) keep-long
+    keep-take = ap (take (w + n)) o ∙ take_laid out (take n (drop at s)) w n (omega (arith, st.w_in, st.out_len)) keep-long
 
     keep-drop : drop (w + n) out' ≡ drop (w + n) out
-    keep-drop = ap (drop (w + n)) o ∙ drop-laid out (take n (drop at s)) w n (omega (arith, st.w_in, st.out_len)) keep-long
+    keep-drop = ap (drop (w + n)) o ∙ drop_laid out (take n (drop at s)) w n (omega (arith, st.w_in, st.out_len)) keep-long
 
     pub keep : State s out₀ list₀ out' list (at + n) (w + n) k
     keep =
         record {
           w_in = omega (arith, keep-fits, st.w_in);
           k_in = st.k_in;
-          out_len = ap length o ∙ length-laid out (take n (drop at s)) w n (omega (arith, st.w_in, st.out_len)) keep-long (omega (arith, f, st.w_in, st.out_len)) ∙ st.out_len;
+          out_len = ap length o ∙ length_laid out (take n (drop at s)) w n (omega (arith, st.w_in, st.out_len)) keep-long (omega (arith, f, st.w_in, st.out_len)) ∙ st.out_len;
           list_len = st.list_len;
           ended = st.ended ∙ keep-ended;
           bytes = st.bytes ∙ ap (λ (x : List Item). take w out ++ kept_bytes s x) keep_left
@@ -121,10 +121,10 @@ module _ {s out₀ list₀ out list : List ℕ} {at w k : ℕ} (st : State s out
     skip-long = omega (arith, f)
 
     skip-take : take (2 * (k + 1)) list' ≡ take (2 * k) list ++ (at ∷ ((q - at) ∷ []))
-    skip-take = rw skip-two (ap (take (2 * k + 2)) o ∙ take-laid list (at ∷ ((q - at) ∷ [])) (2 * k) 2 skip-long refl)
+    skip-take = rw skip-two (ap (take (2 * k + 2)) o ∙ take_laid list (at ∷ ((q - at) ∷ [])) (2 * k) 2 skip-long refl)
 
     skip-drop : drop (2 * (k + 1)) list' ≡ drop (2 * k + 2) list
-    skip-drop = rw skip-two (ap (drop (2 * k + 2)) o ∙ drop-laid list (at ∷ ((q - at) ∷ [])) (2 * k) 2 skip-long refl)
+    skip-drop = rw skip-two (ap (drop (2 * k + 2)) o ∙ drop_laid list (at ∷ ((q - at) ∷ [])) (2 * k) 2 skip-long refl)
 
     pub skip : State s out₀ list₀ out list' q w (k + 1)
     skip =
@@ -132,7 +132,7 @@ module _ {s out₀ list₀ out list : List ℕ} {at w k : ℕ} (st : State s out
           w_in = st.w_in;
           k_in = omega (arith, f, st.list_len);
           out_len = st.out_len;
-          list_len = ap length o ∙ length-laid list (at ∷ ((q - at) ∷ [])) (2 * k) 2 skip-long refl (omega (arith, f)) ∙ st.list_len;
+          list_len = ap length o ∙ length_laid list (at ∷ ((q - at) ∷ [])) (2 * k) 2 skip-long refl (omega (arith, f)) ∙ st.list_len;
           ended = st.ended ∙ skip-ended;
           bytes = st.bytes ∙ ap (λ (x : List Item). take w out ++ kept_bytes s x) skip-left;
           out_rest = st.out_rest;
@@ -176,8 +176,8 @@ module _ {s out₀ list₀ out list : List ℕ} {at w k : ℕ} (st : State s out
   abbrev pub Stopped : Ended → Type 0
   Stopped t = Salvages s out₀ list₀ (record { written = w; stretches = k; ended = t }) out list
 
-  pub no-stretch : at < length s → size_at s at ≡ 0 → slots_of list ≤ k → Stopped (ListFull at)
-  no-stretch h z f =
+  pub no_stretch : at < length s → size_at s at ≡ 0 → slots_of list ≤ k → Stopped (ListFull at)
+  no_stretch h z f =
       let l = lt-leb 1 (slots_of list₀ - k) (omega (arith, f, st.list_len)) in
       stop (ListFull at) (rw (rest_bad s at h z) (rw l refl)) (rw (rest_bad s at h z) (rw l refl))
 

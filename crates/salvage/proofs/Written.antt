@@ -9,7 +9,7 @@ use lib.ListN.{length, take, drop, length-append, length-drop}
 use lib.Seq.{drop-drop, drop-append_seam, take-length}
 use Rattle.fields.specs.Fields.{size_in, size_at}
 use Rattle.fields.specs.Block.{Call, call_in, fields_in, calls_of, calls_in, joined, end_in}
-use Rattle.fields.proofs.Whole.{good_size, size-then, alone, calls-front, Whole}
+use Rattle.fields.proofs.Whole.{good_size, size_then, alone, calls_front, Whole}
 use Rattle.fields.proofs.Steps.{AllWhole, fields_joined, fields_none, none_there, fields_whole, ends_whole}
 use Rattle.fields.proofs.EndToEnd.{whole_is}
 use Rattle.salvage.specs.declared.Salvaged.{Salvaged}
@@ -19,7 +19,7 @@ use Rattle.salvage.specs.Writing.{fitting, kept_bytes, stretches, skips, slots_o
 use Rattle.salvage.specs.Laws.{bytes_in, together, Copied, calls_kept}
 use Rattle.salvage.proofs.Items.{rest, rest_all, rest_end, rest_good}
 use Rattle.salvage.proofs.Rules.{rules}
-use Rattle.salvage.proofs.Ends.{two_skips, unrefused, fit_whole, written-bytes, front_of}
+use Rattle.salvage.proofs.Ends.{two_skips, unrefused, fit_whole, written_bytes, front_of}
 use Rattle.salvage.proofs.Parts.{items_together, items_once}
 
 -- ---- the kept fields, each with its bytes
@@ -35,21 +35,21 @@ kept_joined s (Kept at n ∷ is) = ap (λ (l : List ℕ). take n (drop at s) ++ 
 kept_joined s (Skipped at n ∷ is) = kept_joined s is
 
 module _ (s : List ℕ) where
-  one-whole : (at n : ℕ) → 0 < n → size_at s at ≡ n → Whole (take n (drop at s))
-  one-whole at n h e = rw (← e) (alone (drop at s) (good_size (drop at s) (rw e h)))
+  one_whole : (at n : ℕ) → 0 < n → size_at s at ≡ n → Whole (take n (drop at s))
+  one_whole at n h e = rw (← e) (alone (drop at s) (good_size (drop at s) (rw e h)))
 
-  one-calls : (at n : ℕ) → 0 < n → size_at s at ≡ n → call_in (take n (drop at s)) ≡ call_in (drop at s)
-  one-calls at n h e = rw (← e) (calls-front (drop at s) (good_size (drop at s) (rw e h)))
+  one_calls_lem : (at n : ℕ) → 0 < n → size_at s at ≡ n → call_in (take n (drop at s)) ≡ call_in (drop at s)
+  one_calls_lem at n h e = rw (← e) (calls_front (drop at s) (good_size (drop at s) (rw e h)))
 
 kept_whole : (s : List ℕ) (is : List Item) → Right s is → AllWhole (kept_fields s is)
 kept_whole s [] r = tt
-kept_whole s (Kept at n ∷ is) r = (one-whole s at n r.0.0 r.0.1, kept_whole s is r.1)
+kept_whole s (Kept at n ∷ is) r = (one_whole s at n r.0.0 r.0.1, kept_whole s is r.1)
 kept_whole s (Skipped at n ∷ is) r = kept_whole s is r.1
 
 kept_calls : (s : List ℕ) (is : List Item) → Right s is → calls_of (kept_fields s is) ≡ calls_kept s is
 unfolding calls_of
 kept_calls s [] r = refl
-kept_calls s (Kept at n ∷ is) r = ap₂ (λ (x y : List Call). x ++ y) (one-calls s at n r.0.0 r.0.1) (kept_calls s is r.1)
+kept_calls s (Kept at n ∷ is) r = ap₂ (λ (x y : List Call). x ++ y) (one_calls_lem s at n r.0.0 r.0.1) (kept_calls s is r.1)
 kept_calls s (Skipped at n ∷ is) r = kept_calls s is r.1
 
 -- the fields that are read in the kept bytes are these
@@ -67,7 +67,7 @@ none_skipped : (s : List ℕ) (fs : List (List ℕ)) (p : ℕ) → AllWhole fs �
 unfolding joined
 none_skipped s [] p a e = let l : length s ≤ p = omega (arith, ap length e, length-drop p s) in rw (rest_end s p l) refl
 none_skipped s (f ∷ fs) p a e =
-    let n : length f ≡ size_at s p = sym (ap size_in e ∙ size-then f (joined fs) a.0.good ∙ a.0.size) in
+    let n : length f ≡ size_at s p = sym (ap size_in e ∙ size_then f (joined fs) a.0.good ∙ a.0.size) in
     let t : 3 ≤ length f = omega (arith, a.0.good.whole) in
     let l : p < length s = omega (arith, ap length e, length-append f (joined fs), length-drop p s, t) in
     let d : drop (p + length f) s ≡ joined fs = sym (drop-drop (length f) p s) ∙ ap (drop (length f)) e ∙ drop-append_seam f (joined fs) in
@@ -86,7 +86,7 @@ module _ (file out list : List ℕ) (r : Salvaged) (out' list' : List ℕ) (h : 
       right_front file written f.after (rw f.split at (rules file).right)
 
   bytes : bytes_in r out' ≡ kept_bytes file written
-  bytes = written-bytes file out list r out' list' h
+  bytes = written_bytes file out list r out' list' h
 
   pub sound : end_in (bytes_in r out') ≡ 0 ∷ []
   sound = rw bytes (ends_whole (kept_bytes file written) (ap joined (fields_kept file written right) ∙ kept_joined file written))

@@ -79,18 +79,18 @@ module _ (b : Book) (s : Shown) (f : Full b) (h : InBook s) where
       ap (λ (x : Book). at x (place_in s)) (sym (shown_in_place b s))
       ∙ get_or-set_same b.entries (place_in s) (joined_entry (at b (place_in s)) s) blank (in_place b s f h)
 
-  joined-elsewhere : (i : ℕ) → (i ≡ place_in s → ⊥) → at (joined_shown b s) i ≡ at b i
-  joined-elsewhere i n =
+  joined_elsewhere : (i : ℕ) → (i ≡ place_in s → ⊥) → at (joined_shown b s) i ≡ at b i
+  joined_elsewhere i n =
       ap (λ (x : Book). at x i) (sym (shown_in_place b s)) ∙ get_or-set_other b.entries (place_in s) i (joined_entry (at b (place_in s)) s) blank n
 
-  one-no-lower : (i : ℕ) → NoLower (at (joined_shown b s) i) (at b i)
-  one-no-lower i = by (eqb i (place_in s)) refl
+  one_no_lower : (i : ℕ) → NoLower (at (joined_shown b s) i) (at b i)
+  one_no_lower i = by (eqb i (place_in s)) refl
     where
       by : (t : Bool) → eqb i (place_in s) ≡ t → NoLower (at (joined_shown b s) i) (at b i)
       by true q =
           subst (λ (j : ℕ). NoLower (at (joined_shown b s) j) (at b j)) (sym (eqb-true i (place_in s) q))
           (subst (λ (x : Entry). NoLower x (at b (place_in s))) (sym joined_at) (joined_no_lower (at b (place_in s)) s))
-      by false q = subst (λ (x : Entry). NoLower x (at b i)) (sym (joined-elsewhere i (eqb-false i (place_in s) q))) (below_irrefl (meaning (at b i)))
+      by false q = subst (λ (x : Entry). NoLower x (at b i)) (sym (joined_elsewhere i (eqb-false i (place_in s) q))) (below_irrefl (meaning (at b i)))
 
 -- ---- all that is shown
 -- no entry is below what it was
@@ -98,7 +98,7 @@ no_lower : (ss : List Shown) (b : Book) → Full b → AllInBook ss → (i : ℕ
 unfolding brought
 no_lower [] b f a i = below_irrefl (meaning (at b i))
 no_lower (s ∷ ss) b f a i =
-    not_lower (at b i) (at (joined_shown b s) i) (at (brought (joined_shown b s) ss) i) (one-no-lower b s f a.0 i)
+    not_lower (at b i) (at (joined_shown b s) i) (at (brought (joined_shown b s) ss) i) (one_no_lower b s f a.0 i)
     (no_lower ss (joined_shown b s) (shown_full b s f) a.1 i)
 
 -- and where something rises, an entry is above what it was
@@ -128,7 +128,7 @@ risen (s ∷ ss) b f a h = by (rises_in b s) refl h (risen ss (joined_shown b s)
         let i = r.place in
         record {
           place = i;
-          above = below_later (meaning (at b i)) (meaning (at (joined_shown b s) i)) (meaning (at (brought (joined_shown b s) ss) i)) (one-no-lower b s f a.0 i) r.above;
+          above = below_later (meaning (at b i)) (meaning (at (joined_shown b s) i)) (meaning (at (brought (joined_shown b s) ss) i)) (one_no_lower b s f a.0 i) r.above;
         }
 
 -- so the same book is left only where nothing changes

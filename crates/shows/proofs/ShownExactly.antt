@@ -1,5 +1,5 @@
 -- Where a frame shows an entry, and which, in its strings and their bits: the rule of the pair, by the frame's number (`number_by_six`), and the
--- book's law of three strings (`shown-exactly`).
+-- book's law of three strings (`shown_exactly`).
 -- Assumes nothing.
 use mathlib.Core.Path.{◌≡◌, refl, sym, ap, ◌∙◌}
 use mathlib.Core.Bool.{Bool, true, false, ◌&&◌, ◌||◌, false≢true, beq}
@@ -17,7 +17,7 @@ use Rattle.book.specs.declared.Entry.{Entry}
 use Rattle.book.specs.declared.Shown.TheVariants.{Nothing, At}
 use Rattle.book.specs.Shows.{shown_by}
 use Rattle.book.specs.ShownExactly.{SomeEntry}
-use Rattle.book.proofs.ShownExactly.{shown-exactly}
+use Rattle.book.proofs.ShownExactly.{shown_exactly}
 use Rattle.channel.specs.Frame.{Frame}
 use Rattle.shows.specs.Shows.{frame_number, is_pair, has_pair, shown_at, shows_of}
 use Rattle.shows.specs.FrameNumbers.{frames_by}
@@ -90,8 +90,8 @@ earlier_pair f p (inr (inr (inr e))) = ap (is_pair f) e
 
 -- ---- what is shown at a pair: both halves and string 5 are there, they are a pair, and the three show it
 module _ (f : Frame) (p : ℕ) where
-  abbrev threeThere : Bool
-  threeThere = f.has 5 && (f.has p && f.has (p + 1))
+  abbrev three_there : Bool
+  three_there = f.has 5 && (f.has p && f.has (p + 1))
 
   at_pair : (slot : ℕ) (e : Entry) → shown_at f p ≡ At slot e → (has_pair f p ≡ true) × (shown_by (f.text 5) (f.text p) (f.text (p + 1)) ≡ At slot e)
   at_pair slot e q = by (has_pair f p) refl q
@@ -101,20 +101,20 @@ module _ (f : Frame) (p : ℕ) where
       by true h q = (h, q)
       by false h q = let z : ◌≡◌ {A = ℕ} 0 1 = cc in absurd (omega arith)
 
-  shown-needs : SomeEntry (shown_at f p) → ThreeGood f p × (is_pair f p ≡ true)
-  shown-needs s =
+  shown_needs : SomeEntry (shown_at f p) → ThreeGood f p × (is_pair f p ≡ true)
+  shown_needs s =
       let a = at_pair s.slot s.entry s.is in
-      let t = both threeThere (is_pair f p) a.0 in
+      let t = both three_there (is_pair f p) a.0 in
       let b = both (f.has 5) (f.has p && f.has (p + 1)) t.0 in
       let c = both (f.has p) (f.has (p + 1)) b.1 in
       let some : SomeEntry (shown_by (f.text 5) (f.text p) (f.text (p + 1))) = record { slot = s.slot; entry = s.entry; is = a.1 } in (
-        record { five = b.0; even = c.0; odd = c.1; in_range_lem = (shown-exactly (f.text 5) (f.text p) (f.text (p + 1))).exactly.0 some },
+        record { five = b.0; even = c.0; odd = c.1; in_range_lem = (shown_exactly (f.text 5) (f.text p) (f.text (p + 1))).exactly.0 some },
         t.1,
       )
 
-  shown-where : ThreeGood f p → is_pair f p ≡ true → SomeEntry (shown_at f p)
-  shown-where g h =
-      let s = (shown-exactly (f.text 5) (f.text p) (f.text (p + 1))).exactly.1 g.in_range_lem in
+  shown_where : ThreeGood f p → is_pair f p ≡ true → SomeEntry (shown_at f p)
+  shown_where g h =
+      let s = (shown_exactly (f.text 5) (f.text p) (f.text (p + 1))).exactly.1 g.in_range_lem in
       record { slot = s.slot; entry = s.entry; is = rw (g.five, g.even, g.odd, h) s.is }
 
 -- the five in turn
@@ -130,9 +130,9 @@ pair_at f (suc (suc (suc (suc (suc j))))) h = absurd (omega arith)
 pub frame_shows : (f : Frame) → FrameShows f
 frame_shows f =
     record {
-      earlier = λ p i. ((λ s. (shown-needs f p s).0), (λ g. shown-where f p g (earlier_pair f p i)));
-      last = ((λ s. let n = shown-needs f 14 s in (n.0, in_to f n.1)), (λ g. shown-where f 14 g.0 (in_from f g.1)));
-      what = λ p slot e q. (shown-exactly (f.text 5) (f.text p) (f.text (p + 1))).what slot e (at_pair f p slot e q).1;
+      earlier = λ p i. ((λ s. (shown_needs f p s).0), (λ g. shown_where f p g (earlier_pair f p i)));
+      last = ((λ s. let n = shown_needs f 14 s in (n.0, in_to f n.1)), (λ g. shown_where f 14 g.0 (in_from f g.1)));
+      what = λ p slot e q. (shown_exactly (f.text 5) (f.text p) (f.text (p + 1))).what slot e (at_pair f p slot e q).1;
       pairs = pair_at f;
       no_more = refl;
     }

@@ -34,12 +34,12 @@ use Rattle.station.specs.declared.Emptied.{Emptied}
 use Rattle.station.specs.Station.{row_at, is_served, book_after, station_after, station_reset, OffersTo, Resets}
 use Rattle.station.specs.Demand1.{WellMade}
 use Rattle.station.proofs.AfterOffer.{same_station}
-use Rattle.station.proofs.ChannelRuns.{after_none, after-some, reset-none, reset-some}
+use Rattle.station.proofs.ChannelRuns.{after_none, after_some, reset_none, reset_some}
 use Rattle.station.proofs.EveryHistory.{offer_answers}
 use Rattle.station.proofs.Walked.{Walked, offer_walked}
 use Rattle.sites.specs.Joining.{join_books, site_joined}
 use Rattle.sites.specs.Exchanged.{CallAndJoin, SiteLaws}
-use Rattle.sites.proofs.Slots.{same_slots, joined-long, slot_is}
+use Rattle.sites.proofs.Slots.{same_slots, joined_long, slot_is}
 use Rattle.sites.proofs.Laws.{order, grouping, itself}
 
 -- ---- the joined station
@@ -71,15 +71,15 @@ all_sound f = (at 6, (at 8, (at 10, (at 12, (at 14, tt)))))
 
 module _ (b o : Book) (full : Full b) (w : IsBook o) where
   -- one entry, for its slot and for every other
-  entry-joined : (j : ℕ) (e : Entry) → 1 ≤ j → j ≤ slots → Fits e → joined_shown (join_books b o) (At j e) ≡ join_books (joined_shown b (At j e)) o
-  entry-joined j e least most f =
-      same_slots (joined_shown (join_books b o) (At j e)) (join_books (joined_shown b (At j e)) o) (shown_full (join_books b o) (At j e) (joined-long b o))
-      (joined-long (joined_shown b (At j e)) o) (λ k l m. by k l m (eqb k j) refl)
+  entry_joined : (j : ℕ) (e : Entry) → 1 ≤ j → j ≤ slots → Fits e → joined_shown (join_books b o) (At j e) ≡ join_books (joined_shown b (At j e)) o
+  entry_joined j e least most f =
+      same_slots (joined_shown (join_books b o) (At j e)) (join_books (joined_shown b (At j e)) o) (shown_full (join_books b o) (At j e) (joined_long b o))
+      (joined_long (joined_shown b (At j e)) o) (λ k l m. by k l m (eqb k j) refl)
     where
       by : (k : ℕ) → 1 ≤ k → k ≤ slots → (t : Bool) → eqb k j ≡ t → in_slot (joined_shown (join_books b o) (At j e)) k ≡ in_slot (join_books (joined_shown b (At j e)) o) k
       by k l m true q =
           rw (eqb-true k j q)
-          (shown_slot (join_books b o) j e (joined-long b o) least most
+          (shown_slot (join_books b o) j e (joined_long b o) least most
           ∙ ap (λ (x : Entry). greater x e) (slot_is b o j least most)
           ∙ greater_swap (in_slot b j) (in_slot o j) e (w.widths j least most) f
           ∙ ap (λ (x : Entry). greater x (in_slot o j)) (sym (shown_slot b j e full least most))
@@ -91,15 +91,15 @@ module _ (b o : Book) (full : Full b) (w : IsBook o) where
           ∙ ap (λ (x : Entry). greater x (in_slot o k)) (sym (shown_other b j e k least l n))
           ∙ sym (slot_is (joined_shown b (At j e)) o k l m)
 
-  shown-joined : (s : Shown) → InBook s → Fitting s → joined_shown (join_books b o) s ≡ join_books (joined_shown b s) o
-  shown-joined Nothing i f = shown_nothing (join_books b o) ∙ ap (λ (x : Book). join_books x o) (sym (shown_nothing b))
-  shown-joined (At j e) i f = entry-joined j e i.0 i.1 (f j e refl)
+  shown_joined : (s : Shown) → InBook s → Fitting s → joined_shown (join_books b o) s ≡ join_books (joined_shown b s) o
+  shown_joined Nothing i f = shown_nothing (join_books b o) ∙ ap (λ (x : Book). join_books x o) (sym (shown_nothing b))
+  shown_joined (At j e) i f = entry_joined j e i.0 i.1 (f j e refl)
 
 brought_joined : (ss : List Shown) (b o : Book) → AllSound ss → Full b → IsBook o → brought (join_books b o) ss ≡ join_books (brought b ss) o
 unfolding brought
 brought_joined [] b o a full w = refl
 brought_joined (s ∷ ss) b o a full w =
-    ap (λ (x : Book). brought x ss) (shown-joined b o full w s a.0.0 a.0.1)
+    ap (λ (x : Book). brought x ss) (shown_joined b o full w s a.0.0 a.0.1)
     ∙ brought_joined ss (joined_shown b s) o a.1 (shown_full b s full) w
 
 after_joined : (b o : Book) (row : Row) (epoch : ℕ) (s : List ℕ) → Full b → IsBook o → book_after (join_books b o) row epoch s ≡ join_books (book_after b row epoch s) o
@@ -118,9 +118,9 @@ pub alike : (x y : Station) → x.rows ≡ y.rows → x.book ≡ y.book → Walk
 alike x y rows book v u = same_station x y rows book (v ∙ ap (λ (b : Book). walk_of b.entries) book ∙ sym u)
 
 module _ (st : Station) (other : Book) (full : Full st.book) (w : IsBook other) where
-  pub offer-joined : (card c epoch : ℕ) (s : List ℕ) → station_after (site_joined st other) card c epoch s ≡ site_joined (station_after st card c epoch s) other
+  pub offer_joined : (card c epoch : ℕ) (s : List ℕ) → station_after (site_joined st other) card c epoch s ≡ site_joined (station_after st card c epoch s) other
   unfolding site_joined
-  offer-joined card c epoch s = by (is_served card c) refl
+  offer_joined card c epoch s = by (is_served card c) refl
     where
       x : Station
       x = station_after (site_joined st other) card c epoch s
@@ -128,21 +128,21 @@ module _ (st : Station) (other : Book) (full : Full st.book) (w : IsBook other) 
       by : (t : Bool) → is_served card c ≡ t → x ≡ site_joined (station_after st card c epoch s) other
       by false e = after_none (site_joined st other) card c epoch s e ∙ ap (λ (y : Station). site_joined y other) (sym (after_none st card c epoch s e))
       by true e =
-          let p = after-some (site_joined st other) card c epoch s e in
-          let q = after-some st card c epoch s e in
+          let p = after_some (site_joined st other) card c epoch s e in
+          let q = after_some st card c epoch s e in
           alike x (site_joined (station_after st card c epoch s) other)
           (ap (λ (y : Station). y.rows) p ∙ sym (ap (λ (y : Station). y.rows) q))
           (ap (λ (y : Station). y.book) p ∙ after_joined st.book other (row_at st c) epoch s full w ∙ sym (ap (λ (y : Station). join_books y.book other) q))
           (offer_walked (site_joined st other) card c epoch s _ (joined_walked st other) (offer_answers (site_joined st other) card c epoch s))
           (joined_walked (station_after st card c epoch s) other)
 
-  pub reset-joined : (card c : ℕ) → station_reset (site_joined st other) card c ≡ site_joined (station_reset st card c) other
+  pub reset_joined : (card c : ℕ) → station_reset (site_joined st other) card c ≡ site_joined (station_reset st card c) other
   unfolding site_joined
-  reset-joined card c = by (is_served card c) refl
+  reset_joined card c = by (is_served card c) refl
     where
       by : (t : Bool) → is_served card c ≡ t → station_reset (site_joined st other) card c ≡ site_joined (station_reset st card c) other
-      by false e = reset-none (site_joined st other) card c e ∙ ap (λ (y : Station). site_joined y other) (sym (reset-none st card c e))
-      by true e = reset-some (site_joined st other) card c e ∙ ap (λ (y : Station). site_joined y other) (sym (reset-some st card c e))
+      by false e = reset_none (site_joined st other) card c e ∙ ap (λ (y : Station). site_joined y other) (sym (reset_none st card c e))
+      by true e = reset_some (site_joined st other) card c e ∙ ap (λ (y : Station). site_joined y other) (sym (reset_some st card c e))
 
   call_and_join : CallAndJoin st other
   unfolding site_joined
@@ -150,11 +150,11 @@ module _ (st : Station) (other : Book) (full : Full st.book) (w : IsBook other) 
       record {
         offer = λ card c epoch s r q a b. (
           answer_same q.answer r.answer (b.answer ∙ sym a.answer),
-          b.station ∙ offer-joined card c epoch s ∙ ap (λ (y : Station). site_joined y other) (sym a.station),
+          b.station ∙ offer_joined card c epoch s ∙ ap (λ (y : Station). site_joined y other) (sym a.station),
         );
         reset = λ card c r q a b. (
           written_same q.answer r.answer (b.answer ∙ sym a.answer),
-          b.station ∙ reset-joined card c ∙ ap (λ (y : Station). site_joined y other) (sym a.station),
+          b.station ∙ reset_joined card c ∙ ap (λ (y : Station). site_joined y other) (sym a.station),
         );
       }
 

@@ -15,7 +15,7 @@ use Rattle.book.specs.Book.{slots, in_slot, empty_book, IsBook}
 use Rattle.book.proofs.Order.{blank_fits, greater_left, greater_right, greater_one, greater_same, greater_assoc, greater_comm, greater_of_blank}
 use Rattle.book.proofs.Joins.{empty_full, empty_slot}
 use Rattle.sites.specs.Joining.{join_books, SlotJoined, JoinLaws}
-use Rattle.sites.proofs.Slots.{same_slots, joined-long, slot_is}
+use Rattle.sites.proofs.Slots.{same_slots, joined_long, slot_is}
 
 -- ---- the greater of two is empty exactly where both are
 not_below_day : (s t : Three) → is_below s t ≡ false → t.day ≤ s.day
@@ -54,7 +54,7 @@ slot_joined a b k l m =
 pub is_joined : (a b : Book) → IsBook a → IsBook b → IsBook (join_books a b)
 is_joined a b v w =
     record {
-      long = joined-long a b;
+      long = joined_long a b;
       widths = λ k l m.
           ⊎_elim (λ e. subst Fits (sym (slot_is a b k l m ∙ e)) (v.widths k l m)) (λ e. subst Fits (sym (slot_is a b k l m ∙ e)) (w.widths k l m))
           (greater_one (in_slot a k) (in_slot b k));
@@ -66,12 +66,12 @@ is_empty_lem = record { long = empty_full; widths = λ k l m. subst Fits (sym (e
 -- ---- order and grouping
 pub order : (a b : Book) → IsBook a → IsBook b → join_books a b ≡ join_books b a
 order a b v w =
-    same_slots (join_books a b) (join_books b a) (joined-long a b) (joined-long b a)
+    same_slots (join_books a b) (join_books b a) (joined_long a b) (joined_long b a)
     (λ k l m. slot_is a b k l m ∙ greater_comm (in_slot a k) (in_slot b k) (v.widths k l m) (w.widths k l m) ∙ sym (slot_is b a k l m))
 
 pub grouping : (a b c : Book) → join_books (join_books a b) c ≡ join_books a (join_books b c)
 grouping a b c =
-    same_slots (join_books (join_books a b) c) (join_books a (join_books b c)) (joined-long (join_books a b) c) (joined-long a (join_books b c))
+    same_slots (join_books (join_books a b) c) (join_books a (join_books b c)) (joined_long (join_books a b) c) (joined_long a (join_books b c))
     (λ k l m.
     slot_is (join_books a b) c k l m
     ∙ ap (λ (x : Entry). greater x (in_slot c k)) (slot_is a b k l m)
@@ -80,11 +80,11 @@ grouping a b c =
     ∙ sym (slot_is a (join_books b c) k l m))
 
 pub itself : (b : Book) → IsBook b → join_books b b ≡ b
-itself b w = same_slots (join_books b b) b (joined-long b b) w.long (λ k l m. slot_is b b k l m ∙ greater_same (in_slot b k))
+itself b w = same_slots (join_books b b) b (joined_long b b) w.long (λ k l m. slot_is b b k l m ∙ greater_same (in_slot b k))
 
 pub empty_second : (b : Book) → IsBook b → join_books b empty_book ≡ b
 empty_second b w =
-    same_slots (join_books b empty_book) b (joined-long b empty_book) w.long
+    same_slots (join_books b empty_book) b (joined_long b empty_book) w.long
     (λ k l m. slot_is b empty_book k l m ∙ ap (greater (in_slot b k)) (empty_slot k) ∙ greater_of_blank (in_slot b k))
 
 pub join_laws : JoinLaws

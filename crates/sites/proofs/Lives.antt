@@ -26,14 +26,14 @@ use Rattle.station.specs.Demand3.{BookRule}
 use Rattle.station.proofs.AfterOffer.{same_station}
 use Rattle.station.proofs.EveryHistory.{every_history}
 use Rattle.station.proofs.Holding.{Dated, Holding, holding_same, held_once}
-use Rattle.station.proofs.BookRule.{slot_holds, book_full, shown-kept}
+use Rattle.station.proofs.BookRule.{slot_holds, book_full, shown_kept}
 use Rattle.station.proofs.Walked.{Walked}
 use Rattle.sites.specs.Joining.{join_books, site_joined}
 use Rattle.sites.specs.Lives.{Life, Fresh, Then, Joined, own_calls, Lived, fresh, offering, resetting, joining, Within, itself, before, kept, joined, ShownTo, LifeRule, AfterLife, EveryLife, SameStation, life_of, LifeLaws}
 use Rattle.sites.proofs.Slots.{same_slots, slot_is}
 use Rattle.sites.proofs.Laws.{is_joined, is_empty_lem, itself as joined-itself}
-use Rattle.sites.proofs.Exchanges.{grouped, fitting_at, alike, offer-joined, reset-joined, joined_walked}
-use Rattle.sites.proofs.Union.{holding-both}
+use Rattle.sites.proofs.Exchanges.{grouped, fitting_at, alike, offer_joined, reset_joined, joined_walked}
+use Rattle.sites.proofs.Union.{holding_both}
 
 -- ---- what came to a life by joins: all books joined into it, in one
 unfoldable foreign : Life → Book
@@ -82,10 +82,10 @@ unfolding foreign station_of
 lived_is l st fresh = fresh_is
 lived_is l st (offering card c epoch s m was r lived o) =
     o.station ∙ ap (λ (x : Station). station_after x card c epoch s) (lived_is m was lived)
-    ∙ offer-joined (own m) (foreign m) (calls_book (own_calls m)).long (foreign_book m) card c epoch s
+    ∙ offer_joined (own m) (foreign m) (calls_book (own_calls m)).long (foreign_book m) card c epoch s
 lived_is l st (resetting card c m was r lived o) =
     o.station ∙ ap (λ (x : Station). station_reset x card c) (lived_is m was lived)
-    ∙ reset-joined (own m) (foreign m) (calls_book (own_calls m)).long (foreign_book m) card c
+    ∙ reset_joined (own m) (foreign m) (calls_book (own_calls m)).long (foreign_book m) card c
 lived_is l st (joining m n was other lived theirs) =
     ap (λ (x : Station). site_joined x other.book) (lived_is m was lived)
     ∙ ap (site_joined (site_joined (own m) (foreign m))) (joined_book n other (lived_is n other theirs))
@@ -98,44 +98,44 @@ ShownForeign (Then call l) k u = ShownForeign l k u
 ShownForeign (Joined l m) k u = ShownForeign l k u ⊎ ShownTo m k u
 
 module _ (k : ℕ) (u : Three) where
-  within-split : (part l : Life) → Within part l → ShownIn (own_calls part) k u → ShownIn (own_calls l) k u ⊎ ShownForeign l k u
-  within-split part l (itself m) w = inl w
-  within-split part l (before call m p i) w = ⊎_elim (λ (o : ShownIn (own_calls m) k u). inl (shown-kept call (own_calls m) k u o)) inr (within-split p m i w)
-  within-split part l (kept m n p i) w = ⊎_elim inl (λ (f : ShownForeign m k u). inr (inl f)) (within-split p m i w)
-  within-split part l (joined m n p i) w = inr (inr (record { life = p; within = i; shown = w }))
+  within_split : (part l : Life) → Within part l → ShownIn (own_calls part) k u → ShownIn (own_calls l) k u ⊎ ShownForeign l k u
+  within_split part l (itself m) w = inl w
+  within_split part l (before call m p i) w = ⊎_elim (λ (o : ShownIn (own_calls m) k u). inl (shown_kept call (own_calls m) k u o)) inr (within_split p m i w)
+  within_split part l (kept m n p i) w = ⊎_elim inl (λ (f : ShownForeign m k u). inr (inl f)) (within_split p m i w)
+  within_split part l (joined m n p i) w = inr (inr (record { life = p; within = i; shown = w }))
 
-  foreign-shown : (l : Life) → ShownForeign l k u → ShownTo l k u
-  foreign-shown Fresh f = absurd f
-  foreign-shown (Then call l) f = let w = foreign-shown l f in record { life = w.life; within = before call l w.life w.within; shown = w.shown }
-  foreign-shown (Joined l m) f =
-      ⊎_elim (λ (g : ShownForeign l k u). let w = foreign-shown l g in record { life = w.life; within = kept l m w.life w.within; shown = w.shown })
+  foreign_shown : (l : Life) → ShownForeign l k u → ShownTo l k u
+  foreign_shown Fresh f = absurd f
+  foreign_shown (Then call l) f = let w = foreign_shown l f in record { life = w.life; within = before call l w.life w.within; shown = w.shown }
+  foreign_shown (Joined l m) f =
+      ⊎_elim (λ (g : ShownForeign l k u). let w = foreign_shown l g in record { life = w.life; within = kept l m w.life w.within; shown = w.shown })
       (λ (w : ShownTo m k u). record { life = w.life; within = joined l m w.life w.within; shown = w.shown }) f
 
 module _ (k : ℕ) (least : 1 ≤ k) (most : k ≤ slots) where
-  from-foreign : (l : Life) → Holding (ShownForeign l k) (in_slot (foreign l) k) → Holding (ShownTo l k) (in_slot (life_book l) k)
-  from-foreign l h =
+  from_foreign : (l : Life) → Holding (ShownForeign l k) (in_slot (foreign l) k) → Holding (ShownTo l k) (in_slot (life_book l) k)
+  from_foreign l h =
       subst (Holding (ShownTo l k)) (sym (slot_is (own l).book (foreign l) k least most))
       (holding_same (λ u. ShownIn (own_calls l) k u ⊎ ShownForeign l k u) (ShownTo l k) _
-      (λ u. ⊎_elim (λ (w : ShownIn (own_calls l) k u). record { life = l; within = itself l; shown = w }) (foreign-shown k u l))
-      (λ u w. within-split k u w.life l w.within w.shown)
-      (holding-both (ShownIn (own_calls l) k) (ShownForeign l k) (in_slot (own l).book k) (in_slot (foreign l) k)
+      (λ u. ⊎_elim (λ (w : ShownIn (own_calls l) k u). record { life = l; within = itself l; shown = w }) (foreign_shown k u l))
+      (λ u w. within_split k u w.life l w.within w.shown)
+      (holding_both (ShownIn (own_calls l) k) (ShownForeign l k) (in_slot (own l).book k) (in_slot (foreign l) k)
       (slot_holds (own_calls l) (own l) (every_history (own_calls l)) k least most) h))
 
-  foreign-holds : (l : Life) → Holding (ShownForeign l k) (in_slot (foreign l) k)
+  foreign_holds : (l : Life) → Holding (ShownForeign l k) (in_slot (foreign l) k)
   unfolding foreign
-  foreign-holds Fresh = record { above = λ u f. absurd f; one = inr (empty_slot k, λ u f. f) }
-  foreign-holds (Then call l) = foreign-holds l
-  foreign-holds (Joined l m) =
+  foreign_holds Fresh = record { above = λ u f. absurd f; one = inr (empty_slot k, λ u f. f) }
+  foreign_holds (Then call l) = foreign_holds l
+  foreign_holds (Joined l m) =
       subst (Holding (ShownForeign (Joined l m) k)) (sym (slot_is (foreign l) (life_book m) k least most))
-      (holding-both (ShownForeign l k) (ShownTo m k) (in_slot (foreign l) k) (in_slot (life_book m) k) (foreign-holds l) (from-foreign m (foreign-holds m)))
+      (holding_both (ShownForeign l k) (ShownTo m k) (in_slot (foreign l) k) (in_slot (life_book m) k) (foreign_holds l) (from_foreign m (foreign_holds m)))
 
 -- ---- a life's station
 module _ (l : Life) (st : Station) (lived : Lived l st) where
   is : st ≡ site_joined (own l) (foreign l)
   is = lived_is l st lived
 
-  book-is : st.book ≡ life_book l
-  book-is = joined_book l st is
+  book_is : st.book ≡ life_book l
+  book_is = joined_book l st is
 
   rows_are : st.rows ≡ (own l).rows
   unfolding site_joined
@@ -145,13 +145,13 @@ module _ (l : Life) (st : Station) (lived : Lived l st) where
   walked = subst Walked (sym is) (joined_walked (own l) (foreign l))
 
   -- A SLOT HOLDS THE GREATEST ENTRY SHOWN IN ITS LIFE OR IN ANY LIFE JOINED INTO IT
-  life-holds : (k : ℕ) → 1 ≤ k → k ≤ slots → Holding (ShownTo l k) (in_slot st.book k)
-  life-holds k a b = subst (λ (x : Book). Holding (ShownTo l k) (in_slot x k)) (sym book-is) (from-foreign k a b l (foreign-holds k a b l))
+  life_holds : (k : ℕ) → 1 ≤ k → k ≤ slots → Holding (ShownTo l k) (in_slot st.book k)
+  life_holds k a b = subst (λ (x : Book). Holding (ShownTo l k) (in_slot x k)) (sym book_is) (from_foreign k a b l (foreign_holds k a b l))
 
-  life-rule : (k : ℕ) → 1 ≤ k → k ≤ slots → LifeRule l st k
-  life-rule k a b =
+  life_rule : (k : ℕ) → 1 ≤ k → k ≤ slots → LifeRule l st k
+  life_rule k a b =
       let e = in_slot st.book k in
-      let h = life-holds k a b in
+      let h = life_holds k a b in
       ⊎_elim
       (λ (w : ShownTo l k (meaning e) × Dated e).
       record {
@@ -165,9 +165,9 @@ module _ (l : Life) (st : Station) (lived : Lived l st) where
 
 pub every_life : EveryLife
 every_life l st lived =
-    let b : IsBook st.book = subst IsBook (sym (book-is l st lived)) (is_joined (own l).book (foreign l) (calls_book (own_calls l)) (foreign_book l)) in
+    let b : IsBook st.book = subst IsBook (sym (book_is l st lived)) (is_joined (own l).book (foreign l) (calls_book (own_calls l)) (foreign_book l)) in
     record {
-      book = life-rule l st lived;
+      book = life_rule l st lived;
       summary = walked l st lived;
       rows = rows_are l st lived;
       is_book = b;
@@ -183,7 +183,7 @@ same_lives l m calls to from st st' p q =
     let b = every_life m st' q in
     alike st st' (a.rows ∙ ap (λ (cs : List Call). (station_of cs).rows) calls ∙ sym b.rows)
     (same_slots st.book st'.book a.is_book.long b.is_book.long
-    (λ k i j. held_once (ShownTo l k) (ShownTo m k) (in_slot st.book k) (in_slot st'.book k) (to k) (from k) (life-holds l st p k i j) (life-holds m st' q k i j)))
+    (λ k i j. held_once (ShownTo l k) (ShownTo m k) (in_slot st.book k) (in_slot st'.book k) (to k) (from k) (life_holds l st p k i j) (life_holds m st' q k i j)))
     a.summary b.summary
 
 -- a life within a life within a third
@@ -196,23 +196,23 @@ within_trans a b c i (joined m n p j) = joined m n a (within_trans a p n i j)
 -- ---- a join and a call
 module _ (call : Call) (l m : Life) (k : ℕ) (u : Three) where
   -- shown in a life within the first, so in the second; and back
-  to-call : (p : Life) → Within p (Then call (Joined l m)) → ShownIn (own_calls p) k u → ShownTo (Joined (Then call l) m) k u
-  to-call p (itself n) w = record { life = Then call l; within = kept (Then call l) m (Then call l) (itself (Then call l)); shown = w }
-  to-call p (before c n q i) w = by q i w
+  to_call : (p : Life) → Within p (Then call (Joined l m)) → ShownIn (own_calls p) k u → ShownTo (Joined (Then call l) m) k u
+  to_call p (itself n) w = record { life = Then call l; within = kept (Then call l) m (Then call l) (itself (Then call l)); shown = w }
+  to_call p (before c n q i) w = by q i w
     where
       by : (q : Life) → Within q (Joined l m) → ShownIn (own_calls q) k u → ShownTo (Joined (Then call l) m) k u
       by q (itself n) w = record { life = l; within = kept (Then call l) m l (before call l l (itself l)); shown = w }
       by q (kept a b r i) w = record { life = r; within = kept (Then call l) m r (before call l r i); shown = w }
       by q (joined a b r i) w = record { life = r; within = joined (Then call l) m r i; shown = w }
 
-  from-call : (p : Life) → Within p (Joined (Then call l) m) → ShownIn (own_calls p) k u → ShownTo (Then call (Joined l m)) k u
-  from-call p (itself n) w = record { life = Then call (Joined l m); within = itself (Then call (Joined l m)); shown = w }
-  from-call p (kept a b q i) w = by q i w
+  from_call : (p : Life) → Within p (Joined (Then call l) m) → ShownIn (own_calls p) k u → ShownTo (Then call (Joined l m)) k u
+  from_call p (itself n) w = record { life = Then call (Joined l m); within = itself (Then call (Joined l m)); shown = w }
+  from_call p (kept a b q i) w = by q i w
     where
       by : (q : Life) → Within q (Then call l) → ShownIn (own_calls q) k u → ShownTo (Then call (Joined l m)) k u
       by q (itself n) w = record { life = Then call (Joined l m); within = itself (Then call (Joined l m)); shown = w }
       by q (before c n r i) w = record { life = r; within = before call (Joined l m) r (kept l m r i); shown = w }
-  from-call p (joined a b q i) w = record { life = q; within = before call (Joined l m) q (joined l m q i); shown = w }
+  from_call p (joined a b q i) w = record { life = q; within = before call (Joined l m) q (joined l m q i); shown = w }
 
 -- ---- two joins
 exchanged : (l m n : Life) (k : ℕ) (u : Three) (p : Life) → Within p (Joined (Joined l m) n) → ShownIn (own_calls p) k u → ShownTo (Joined (Joined l n) m) k u
@@ -249,7 +249,7 @@ from_runs cs st (resetting-run card c ds was r run o) = resetting card c (life_o
 shown_alone : (cs : List Call) (k : ℕ) (u : Three) (p : Life) → Within p (life_of cs) → ShownIn (own_calls p) k u → ShownIn cs k u
 shown_alone [] k u p (itself m) w = w
 shown_alone (call ∷ cs) k u p (itself m) w = subst (λ (l : List Call). ShownIn l k u) (own_of (call ∷ cs)) w
-shown_alone (call ∷ cs) k u p (before c m q i) w = shown-kept call cs k u (shown_alone cs k u q i w)
+shown_alone (call ∷ cs) k u p (before c m q i) w = shown_kept call cs k u (shown_alone cs k u q i w)
 
 same_shown : (cs : List Call) (k : ℕ) (u : Three) → ShownTo (life_of cs) k u ↔ ShownIn cs k u
 same_shown cs k u = (
@@ -270,7 +270,7 @@ pub life_laws : LifeLaws
 life_laws =
     record {
       call_and_join = λ call l m. same_lives (Then call (Joined l m)) (Joined (Then call l) m) refl
-          (λ k u w. to-call call l m k u w.life w.within w.shown) (λ k u w. from-call call l m k u w.life w.within w.shown);
+          (λ k u w. to_call call l m k u w.life w.within w.shown) (λ k u w. from_call call l m k u w.life w.within w.shown);
       two_joins = λ l m n. same_lives (Joined (Joined l m) n) (Joined (Joined l n) m) refl
           (λ k u w. exchanged l m n k u w.life w.within w.shown) (λ k u w. exchanged l n m k u w.life w.within w.shown);
       nothing_new = λ l part i. same_lives (Joined l part) l refl

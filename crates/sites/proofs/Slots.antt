@@ -38,20 +38,20 @@ made_at f (k ∷ ks) zero h = refl
 made_at f (k ∷ ks) (suc i) h = made_at f ks i (le_of_suc-le-suc h)
 
 module _ (a b : Book) where
-  pub joined-long : length (join_books a b).entries ≡ slots
+  pub joined_long : length (join_books a b).entries ≡ slots
   unfolding join_books
-  joined-long = refl
+  joined_long = refl
 
   -- EACH SLOT IS THE GREATER OF THE TWO
-  pub entry-is : (i : ℕ) → i < slots → get_or (join_books a b).entries i blank ≡ kept_of (get_or a.entries i blank) (get_or b.entries i blank)
+  pub entry_is : (i : ℕ) → i < slots → get_or (join_books a b).entries i blank ≡ kept_of (get_or a.entries i blank) (get_or b.entries i blank)
   unfolding join_books
-  entry-is i h =
+  entry_is i h =
       let e : suc i - 1 ≡ i = omega arith in
       made_at (λ k. kept_of (in_slot a k) (in_slot b k)) (1 to slots) i h ∙ ap (λ (k : ℕ). kept_of (in_slot a k) (in_slot b k)) (slot_at i h)
       ∙ ap (λ (j : ℕ). kept_of (get_or a.entries j blank) (get_or b.entries j blank)) e
 
   pub slot_is : (k : ℕ) → 1 ≤ k → k ≤ slots → in_slot (join_books a b) k ≡ kept_of (in_slot a k) (in_slot b k)
-  slot_is k l m = entry-is (k - 1) (omega arith)
+  slot_is k l m = entry_is (k - 1) (omega arith)
 
 -- ---- the code's loop: the first i entries are joined, the others are those of the first book
 pub record Passed (xs ys : List Entry) (i : ℕ) (es : List Entry) : Type 0 where
@@ -74,5 +74,5 @@ pub ends : (xs ys : List Entry) (i : ℕ) (es : List Entry) → slots ≤ i → 
 ends xs ys i es h p =
     let a : Book = record { entries = xs } in
     let b : Book = record { entries = ys } in
-    ext_get_or blank es (join_books a b).entries (p.long ∙ sym (joined-long a b))
-    (λ j l. p.joined j (omega (arith, p.long)) ∙ sym (entry-is a b j (omega (arith, p.long))))
+    ext_get_or blank es (join_books a b).entries (p.long ∙ sym (joined_long a b))
+    (λ j l. p.joined j (omega (arith, p.long)) ∙ sym (entry_is a b j (omega (arith, p.long))))

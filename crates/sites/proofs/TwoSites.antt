@@ -26,14 +26,14 @@ use Rattle.station.specs.declared.Station.{Station}
 use Rattle.station.specs.Station.{channels, card_channels, last_channel, owner_of, is_card, is_served}
 use Rattle.station.specs.History.{Call, Offer, Reset, card_of, channel_of, itself, is_on, Serving, calls_by, calls_on, Part, whole, ShownBy, ShownIn, GreatestBy, Runs}
 use Rattle.station.proofs.Served.{served_below, owned_served}
-use Rattle.station.proofs.ChannelRuns.{on-another, calls_other}
+use Rattle.station.proofs.ChannelRuns.{on_another, calls_other}
 use Rattle.station.proofs.Holding.{Dated, Holding, holding_same, held_once}
 use Rattle.station.proofs.BookRule.{slot_holds, book_full}
 use Rattle.station.proofs.Walked.{runs_walked}
 use Rattle.sites.specs.Joining.{join_books}
 use Rattle.sites.specs.TwoSites.{Filled, Unfilled, BookOf, Has, GivenBoth, JoinIsBook, EveryTwoSites, EveryStation, OfCardOne, by_card_two, Mixed, none, first, second, OneStation, EveryTwoCards}
-use Rattle.sites.proofs.Slots.{same_slots, joined-long, slot_is}
-use Rattle.sites.proofs.Union.{holding-both}
+use Rattle.sites.proofs.Slots.{same_slots, joined_long, slot_is}
+use Rattle.sites.proofs.Union.{holding_both}
 
 -- ---- what is shown has a day
 shown_day : (f : Frame) (p k : ℕ) (e : Entry) → shown_at f p ≡ At k e → 1 ≤ e.day
@@ -45,8 +45,8 @@ shown_day f p k e = by (has_pair f p)
 
 -- ---- the book's rule, as a slot against a set
 module _ (serves : Serving) (cs : List Call) (k : ℕ) (e : Entry) where
-  to-holding : Filled serves cs k e ⊎ Unfilled serves cs k e → Holding (ShownBy serves cs k) e
-  to-holding =
+  to_holding : Filled serves cs k e ⊎ Unfilled serves cs k e → Holding (ShownBy serves cs k) e
+  to_holding =
       ⊎_elim
       (λ (f : Filled serves cs k e).
       let w = f.greatest.shown in
@@ -56,8 +56,8 @@ module _ (serves : Serving) (cs : List Call) (k : ℕ) (e : Entry) where
       })
       (λ (n : Unfilled serves cs k e). record { above = λ u w. absurd (n.none u w); one = inr (n.empty, n.none) })
 
-  from-holding : Holding (ShownBy serves cs k) e → Filled serves cs k e ⊎ Unfilled serves cs k e
-  from-holding h =
+  from_holding : Holding (ShownBy serves cs k) e → Filled serves cs k e ⊎ Unfilled serves cs k e
+  from_holding h =
       ⊎_elim (λ (w : ShownBy serves cs k (meaning e) × Dated e). inl (record { greatest = record { shown = w.0; none_above = h.above }; told = w.1.1 }))
       (λ (w : (e ≡ blank) × ((u : Three) → ShownBy serves cs k u → ⊥)). inr (record { none = w.1; empty = w.0 })) h.one
 
@@ -102,26 +102,26 @@ module _ (s t one : Serving) (cs ds es : List Call) (given : GivenBoth s cs t ds
   one_holds : (x y : Entry) → Holding (ShownBy s cs k) x → Holding (ShownBy t ds k) y → Holding (ShownBy one es k) (greater x y)
   one_holds x y h g =
       holding_same (λ u. ShownBy s cs k u ⊎ ShownBy t ds k u) (ShownBy one es k) (greater x y) to_one from_one
-      (holding-both (ShownBy s cs k) (ShownBy t ds k) x y h g)
+      (holding_both (ShownBy s cs k) (ShownBy t ds k) x y h g)
 
 -- TWO SITES, ONE STATION, for any number of channels
 pub two_sites : EveryTwoSites
-two_sites s t one cs ds es given a b p q = record { book = record { long = joined-long a b; slot = λ k l m. from-holding one es k (in_slot (join_books a b) k) (joined k l m) }; only = only }
+two_sites s t one cs ds es given a b p q = record { book = record { long = joined_long a b; slot = λ k l m. from_holding one es k (in_slot (join_books a b) k) (joined k l m) }; only = only }
   where
     joined : (k : ℕ) → 1 ≤ k → k ≤ slots → Holding (ShownBy one es k) (in_slot (join_books a b) k)
     joined k l m =
         subst (Holding (ShownBy one es k)) (sym (slot_is a b k l m))
-        (one_holds s t one cs ds es given k (in_slot a k) (in_slot b k) (to-holding s cs k (in_slot a k) (p.slot k l m)) (to-holding t ds k (in_slot b k) (q.slot k l m)))
+        (one_holds s t one cs ds es given k (in_slot a k) (in_slot b k) (to_holding s cs k (in_slot a k) (p.slot k l m)) (to_holding t ds k (in_slot b k) (q.slot k l m)))
 
     only : (c : Book) → BookOf one es c → c ≡ join_books a b
     only c r =
-        same_slots c (join_books a b) r.long (joined-long a b)
+        same_slots c (join_books a b) r.long (joined_long a b)
         (λ k l m. held_once (ShownBy one es k) (ShownBy one es k) (in_slot c k) (in_slot (join_books a b) k) (λ u w. w) (λ u w. w)
-        (to-holding one es k (in_slot c k) (r.slot k l m)) (joined k l m))
+        (to_holding one es k (in_slot c k) (r.slot k l m)) (joined k l m))
 
 pub every_station : EveryStation
 every_station cs st run =
-    record { long = book_full cs st run; slot = λ k l m. from-holding is_served cs k (in_slot st.book k) (slot_holds cs st run k l m) }
+    record { long = book_full cs st run; slot = λ k l m. from_holding is_served cs k (in_slot st.book k) (slot_holds cs st run k l m) }
 
 -- ---- two cards: the calls of card one as they are, those of the second site by card two, mixed
 -- no call of these is on a channel
@@ -150,7 +150,7 @@ seconds c cs ds es (second call xs ys zs m) n = ap (λ (l : List OnChannel). pic
 -- card one's calls are on channels to 23, those moved on higher ones
 none_high : (c : ℕ) → 24 ≤ c → (cs : List Call) → OfCardOne cs → NoneOn c cs
 none_high c h [] o = tt
-none_high c h (call ∷ cs) o = (on-another call c (λ e. omega (arith, o.0.1)), none_high c h cs o.1)
+none_high c h (call ∷ cs) o = (on_another call c (λ e. omega (arith, o.0.1)), none_high c h cs o.1)
 
 moved_to : (call : Call) → channel_of (by_card_two call) ≡ channel_of call + 24
 moved_to (Offer card c epoch s) = refl
@@ -166,7 +166,7 @@ moved_itself (Reset card c) = refl
 
 none_low : (c : ℕ) → c ≤ 23 → (ds : List Call) → NoneOn c (map by_card_two ds)
 none_low c h [] = tt
-none_low c h (call ∷ ds) = (on-another (by_card_two call) c (λ e. omega (arith, moved_to call)), none_low c h ds)
+none_low c h (call ∷ ds) = (on_another (by_card_two call) c (λ e. omega (arith, moved_to call)), none_low c h ds)
 
 -- whose channels they are
 served_one : (c : ℕ) → c ≤ 23 → is_served 1 c ≡ true

@@ -48,9 +48,9 @@ module _ (P Q : Three → Type 0) (x y : Entry) (h : Holding P x) (g : Holding Q
           (λ (w : (y ≡ blank) × ((u : Three) → Q u → ⊥)). w.1) g.one
 
   -- THE GREATER HOLDS THE GREATEST OF BOTH
-  pub holding-both : Holding Both (greater x y)
+  pub holding_both : Holding Both (greater x y)
   unfolding greater
-  holding-both = by (is_below (meaning x) (meaning y)) refl
+  holding_both = by (is_below (meaning x) (meaning y)) refl
     where
       by : (t : Bool) → is_below (meaning x) (meaning y) ≡ t → Holding Both (pick t y x)
       by true b = second b

@@ -26,7 +26,7 @@ use Rattle.sky.specs.declared.Made.TheVariants.{Done, OutOfOrder, Refused}
 use Rattle.sky.specs.Mark.{mark, sequence, five_ones, mark_shortened}
 use Rattle.sky.specs.Line.{relative_bytes, symbol_of, lines_of, sky_lines, heard_in, LineLaws}
 use Rattle.sky.specs.Calls.{made_paper, make_tests, MakesSky, MakeLaws}
-use Rattle.sky.proofs.Lines.{lines_long, lines_small, first-half, second-half, mark-in}
+use Rattle.sky.proofs.Lines.{lines_long, lines_small, first_half, second_half, mark_in}
 use Rattle.sky.proofs.Strings.{string_small, idle_sent, read_back_lem, plain_back}
 
 -- ---- THE SYMBOLS OF EVERY SKY
@@ -34,51 +34,51 @@ module _ (sky : Sky) where
   abbrev sent : ℕ → List ℕ
   sent i = relative_bytes (sky_string sky (suc i))
 
-  sky-long : length (sky_lines sky) ≡ 15000
+  sky_long : length (sky_lines sky) ≡ 15000
   unfolding sky_lines
-  sky-long = lines_long sent 75
+  sky_long = lines_long sent 75
 
-  sky-small : (k : ℕ) → get_or (sky_lines sky) k 0 < 2
+  sky_small : (k : ℕ) → get_or (sky_lines sky) k 0 < 2
   unfolding sky_lines
-  sky-small = lines_small sent 75
+  sky_small = lines_small sent 75
 
-  sky-first : (i j : ℕ) → i < 75 → j < 85 → get_or (sky_lines sky) (200 * i + 2 * j) 0 ≡ symbol_of (sent i) j
+  sky_first : (i j : ℕ) → i < 75 → j < 85 → get_or (sky_lines sky) (200 * i + 2 * j) 0 ≡ symbol_of (sent i) j
   unfolding sky_lines
-  sky-first i j l u = first-half sent 75 i j l u
+  sky_first i j l u = first_half sent 75 i j l u
 
-  sky-second : (i j : ℕ) → i < 75 → j < 85 → get_or (sky_lines sky) (200 * i + 2 * j + 1) 0 ≡ 1 - symbol_of (sent i) j
+  sky_second : (i j : ℕ) → i < 75 → j < 85 → get_or (sky_lines sky) (200 * i + 2 * j + 1) 0 ≡ 1 - symbol_of (sent i) j
   unfolding sky_lines
-  sky-second i j l u = second-half sent 75 i j l u
+  sky_second i j l u = second_half sent 75 i j l u
 
   -- no string of a sky that is not refused has bit 85
-  small-in : Makes sky → (i : ℕ) → i < 75 → sky_string sky (suc i) < 2 ^ 84
-  small-in o i l = string_small sky ((refusals sky).made o).1 (suc i) (omega arith) (omega arith)
+  small_in : Makes sky → (i : ℕ) → i < 75 → sky_string sky (suc i) < 2 ^ 84
+  small_in o i l = string_small sky ((refusals sky).made o).1 (suc i) (omega arith) (omega arith)
 
-  sky-plain : Makes sky → (i : ℕ) → i < 75 → read_relative (number_of (heard_in (sky_lines sky) (suc i))) ≡ sky_string sky (suc i)
-  sky-plain o i l = ap (λ (s : List ℕ). read_relative (number_of s)) (read_back_lem sky i l) ∙ plain_back (sky_string sky (suc i)) (small-in o i l)
+  sky_plain : Makes sky → (i : ℕ) → i < 75 → read_relative (number_of (heard_in (sky_lines sky) (suc i))) ≡ sky_string sky (suc i)
+  sky_plain o i l = ap (λ (s : List ℕ). read_relative (number_of s)) (read_back_lem sky i l) ∙ plain_back (sky_string sky (suc i)) (small_in o i l)
 
-  sky-mark : (i j : ℕ) → i < 75 → j < 30 → get_or (sky_lines sky) (200 * i + 170 + j) 0 ≡ get_or mark j 0
+  sky_mark : (i j : ℕ) → i < 75 → j < 30 → get_or (sky_lines sky) (200 * i + 170 + j) 0 ≡ get_or mark j 0
   unfolding sky_lines
-  sky-mark i j l u = mark-in sent 75 i j l u
+  sky_mark i j l u = mark_in sent 75 i j l u
 
   whole : (j : ℕ) → j < 30 → get_or mark j 0 ≡ get_or (sequence 31 five_ones) j 0
   whole j u = sym (ap (λ (l : List ℕ). get_or l j 0) mark_shortened.0 ∙ get_or-append mark (0 ∷ []) 0 j u)
 
-  sky-whole : Makes sky → (i j : ℕ) → i < 74 → j < 31 → get_or (sky_lines sky) (200 * i + 170 + j) 0 ≡ get_or (sequence 31 five_ones) j 0
-  sky-whole o i j l u = by (ltb j 30) refl
+  sky_whole : Makes sky → (i j : ℕ) → i < 74 → j < 31 → get_or (sky_lines sky) (200 * i + 170 + j) 0 ≡ get_or (sequence 31 five_ones) j 0
+  sky_whole o i j l u = by (ltb j 30) refl
     where
       by : (t : Bool) → ltb j 30 ≡ t → get_or (sky_lines sky) (200 * i + 170 + j) 0 ≡ get_or (sequence 31 five_ones) j 0
-      by true q = sky-mark i j (omega arith) (ltb-true j 30 q) ∙ whole j (ltb-true j 30 q)
+      by true q = sky_mark i j (omega arith) (ltb-true j 30 q) ∙ whole j (ltb-true j 30 q)
       by false q =
           let e : j ≡ 30 = omega (arith, ltb-false j 30 q) in
           let p : 200 * i + 170 + j ≡ 200 * suc i + 2 * 0 = omega arith in
-          ap (λ (k : ℕ). get_or (sky_lines sky) k 0) p ∙ sky-first (suc i) 0 (omega arith) (lit< tt)
-          ∙ idle_sent (sky_string sky (suc (suc i))) (small-in o (suc i) (omega arith))
+          ap (λ (k : ℕ). get_or (sky_lines sky) k 0) p ∙ sky_first (suc i) 0 (omega arith) (lit< tt)
+          ∙ idle_sent (sky_string sky (suc (suc i))) (small_in o (suc i) (omega arith))
           ∙ ap (λ (k : ℕ). get_or (sequence 31 five_ones) k 0) (sym e)
 
-  pub line-laws : LineLaws sky
-  line-laws =
-      record { long = sky-long; small = sky-small; first = sky-first; second = sky-second; heard = read_back_lem sky; plain = sky-plain; marked = sky-mark; completed = sky-whole }
+  pub line_laws : LineLaws sky
+  line_laws =
+      record { long = sky_long; small = sky_small; first = sky_first; second = sky_second; heard = read_back_lem sky; plain = sky_plain; marked = sky_mark; completed = sky_whole }
 
 -- ---- the answers, test by test
 module _ (sky : Sky) (out : List ℕ) where
@@ -87,13 +87,13 @@ module _ (sky : Sky) (out : List ℕ) where
   no_room_lem h = refuses 11 (ap not (ne_eqb (length out) 15000 h))
 
   module _ (h : length out ≡ 15000) where
-    pub no-order : wrong_slot sky 24 ≡ true → MakesSky sky out OutOfOrder out
+    pub no_order : wrong_slot sky 24 ≡ true → MakesSky sky out OutOfOrder out
     unfolding MakesSky
-    no-order e = goes_on 12 (ap not (eq-eqb (length out) 15000 h)) (refuses 17 e)
+    no_order e = goes_on 12 (ap not (eq-eqb (length out) 15000 h)) (refuses 17 e)
 
-    pub no-range : wrong_slot sky 24 ≡ false → (p : ℕ) → p ≡ lowest_bad sky 75 → (p ≡ 0 → ⊥) → MakesSky sky out (Refused (Range p)) out
+    pub no_range : wrong_slot sky 24 ≡ false → (p : ℕ) → p ≡ lowest_bad sky 75 → (p ≡ 0 → ⊥) → MakesSky sky out (Refused (Range p)) out
     unfolding MakesSky
-    no-range e p q z = rw q (goes_on 12 (ap not (eq-eqb (length out) 15000 h)) (goes_on 18 e (refuses 9 (ap not (ne_eqb (lowest_bad sky 75) 0 (λ w. z (q ∙ w)))))))
+    no_range e p q z = rw q (goes_on 12 (ap not (eq-eqb (length out) 15000 h)) (goes_on 18 e (refuses 9 (ap not (ne_eqb (lowest_bad sky 75) 0 (λ w. z (q ∙ w)))))))
 
     pub is_made : wrong_slot sky 24 ≡ false → lowest_bad sky 75 ≡ 0 → (out' : List ℕ) → out' ≡ sky_lines sky → MakesSky sky out Done out'
     unfolding MakesSky
@@ -170,5 +170,5 @@ module _ (sky : Sky) (out : List ℕ) where
   unfolding MakesSky
   never_75 out' a = (refusals sky).never_75 (place_told (not (eqb (length out) 15000)) (wrong_slot sky 24) (not (eqb (lowest_bad sky 75) 0)) (lowest_bad sky 75) 75 a.answer)
 
-  pub make-laws : MakeLaws sky out
-  make-laws = record { once = once; numbers = numbers; made = made; untouched = untouched; never_75 = never_75 }
+  pub make_laws : MakeLaws sky out
+  make_laws = record { once = once; numbers = numbers; made = made; untouched = untouched; never_75 = never_75 }

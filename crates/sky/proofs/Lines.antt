@@ -94,18 +94,18 @@ line_in f (suc n) i k l u = by (ltb i n) refl (λ h. line_in f n i k h u)
         ∙ ap (λ (x : ℕ). get_or (line_of (f x)) k 0) (sym j)
 
 module _ (f : ℕ → List ℕ) (n i j : ℕ) (l : i < n) where
-  pub first-half : j < 85 → get_or (lines_of f n) (200 * i + 2 * j) 0 ≡ symbol_of (f i) j
-  first-half u =
+  pub first_half : j < 85 → get_or (lines_of f n) (200 * i + 2 * j) 0 ≡ symbol_of (f i) j
+  first_half u =
       let e : 2 * j ≡ 2 * j + 0 = omega arith in
       line_in f n i (2 * j) l (omega arith) ∙ ap (λ (k : ℕ). get_or (line_of (f i)) k 0) e ∙ line_half (f i) 0 j (omega arith) u
 
-  pub second-half : j < 85 → get_or (lines_of f n) (200 * i + 2 * j + 1) 0 ≡ 1 - symbol_of (f i) j
-  second-half u =
+  pub second_half : j < 85 → get_or (lines_of f n) (200 * i + 2 * j + 1) 0 ≡ 1 - symbol_of (f i) j
+  second_half u =
       let e : 200 * i + 2 * j + 1 ≡ 200 * i + (2 * j + 1) = omega arith in
       ap (λ (k : ℕ). get_or (lines_of f n) k 0) e ∙ line_in f n i (2 * j + 1) l (omega arith) ∙ line_half (f i) 1 j (omega arith) u
 
-  pub mark-in : j < 30 → get_or (lines_of f n) (200 * i + 170 + j) 0 ≡ get_or mark j 0
-  mark-in u =
+  pub mark_in : j < 30 → get_or (lines_of f n) (200 * i + 170 + j) 0 ≡ get_or mark j 0
+  mark_in u =
       let e : 200 * i + 170 + j ≡ 200 * i + (170 + j) = omega arith in
       ap (λ (k : ℕ). get_or (lines_of f n) k 0) e ∙ line_in f n i (170 + j) l (omega arith) ∙ line_mark (f i) j
 

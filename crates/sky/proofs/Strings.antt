@@ -19,7 +19,7 @@ use Rattle.strings.proofs.Encode.{encode_stays}
 use Rattle.relative.specs.Relative.{read_relative, write_relative}
 use Rattle.relative.specs.Polarity.{first_symbol}
 use Rattle.relative.specs.Calls.{WritesRelative}
-use Rattle.relative.proofs.RelativeCode.{written_lt, first_written, read_written, writes, writes-once}
+use Rattle.relative.proofs.RelativeCode.{written_lt, first_written, read_written, writes, writes_once}
 use Rattle.records.specs.declared.named.Record.{Record}
 use Rattle.records.specs.Records.{kind_of, list_of}
 use Rattle.records.proofs.RecordLists.{list_long}
@@ -31,9 +31,9 @@ use Rattle.superframe.specs.declared.Sky.{Sky}
 use Rattle.superframe.specs.Sky.{record_in, frame_at, string_number, sky_string}
 use Rattle.superframe.specs.Refused.{Makes, lowest_bad, string_bad}
 use Rattle.superframe.proofs.Lowest.{none_told}
-use Rattle.superframe.proofs.Encoder.{words-good}
+use Rattle.superframe.proofs.Encoder.{words_good}
 use Rattle.sky.specs.Line.{relative_bytes, symbol_of, lines_of, sky_lines, heard_in}
-use Rattle.sky.proofs.Lines.{first-half}
+use Rattle.sky.proofs.Lines.{first_half}
 
 -- ---- bit 85 is 0
 record_small : (m : ℕ) (r : Record) → m ≤ 15 → first_bad (layout (kind_of r)) (list_of r) ≡ 0 → string_of m r < 2 ^ 84
@@ -45,7 +45,7 @@ record_small m r h e =
 pub string_small : (sky : Sky) → lowest_bad sky 75 ≡ 0 → (i : ℕ) → 1 ≤ i → i ≤ 75 → sky_string sky i < 2 ^ 84
 unfolding sky_string
 string_small sky z i a b =
-    record_small (string_number i) (record_in sky (frame_at i) (string_number i)) (omega arith) (words-good sky i a b (record_in sky (frame_at i) (string_number i)) refl (none_told sky z i a b))
+    record_small (string_number i) (record_in sky (frame_at i) (string_number i)) (omega arith) (words_good sky i a b (record_in sky (frame_at i) (string_number i)) refl (none_told sky z i a b))
 
 -- ---- it is sent
 pub sent_as : (n : ℕ) → n < 2 ^ 84 → (s out out' : List ℕ) (w : Written) → length out ≡ 11 → s ≡ bytes_of_string n → WritesRelative s out w out' → out' ≡ relative_bytes n
@@ -55,7 +55,7 @@ sent_as n h s out out' w long is a =
     let e = string_number_lem n l in
     let idle : bit_of n 85 ≡ 0 = omega arith in
     let d = writes (bytes_of_string n) out long (string_shaped n l) (ap (λ (x : ℕ). eqb (bit_of x 85) 1) e ∙ ne_eqb (bit_of n 85) 1 (λ q. omega (arith, q, idle))) in
-    (writes-once (bytes_of_string n) out w out' Done _ (subst (λ (x : List ℕ). WritesRelative x out w out') is a) d).1 ∙ ap (λ (x : ℕ). bytes_of_string (write_relative x)) e
+    (writes_once (bytes_of_string n) out w out' Done _ (subst (λ (x : List ℕ). WritesRelative x out w out') is a) d).1 ∙ ap (λ (x : ℕ). bytes_of_string (write_relative x)) e
 
 -- ---- and read back
 bytes_small : (n x : ℕ) → Bytes (bytes_of n x)
@@ -95,7 +95,7 @@ read_back_lem sky i l =
     let z : 200 * (suc i - 1) ≡ 200 * i = omega arith in
     ap bytes_of_string
     (from_same _ (bit_of x) 85
-    (λ b l' u. ap (λ (k : ℕ). get_or (lines_of f 75) (k + 2 * (85 - b)) 0) z ∙ first-half f 75 i (85 - b) l (omega arith) ∙ symbol_bit x b (written_lt (sky_string sky (suc i))) l' u)
+    (λ b l' u. ap (λ (k : ℕ). get_or (lines_of f 75) (k + 2 * (85 - b)) 0) z ∙ first_half f 75 i (85 - b) l (omega arith) ∙ symbol_bit x b (written_lt (sky_string sky (suc i))) l' u)
     ∙ number_from_bits_lem x (written_lt (sky_string sky (suc i))))
 
 -- in plain form too

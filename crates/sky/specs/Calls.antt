@@ -26,7 +26,7 @@ make_order sky out = refl
 unfoldable pub MakesSky : Sky → List ℕ → Made → List ℕ → Type 0
 MakesSky sky out r out' = Answers (make_tests sky out) [] (sky_lines sky) out (made_paper r) out'
 
--- What holds of every making. Proved as `make-laws` in `proofs/Laws.antt`
+-- What holds of every making. Proved as `make_laws` in `proofs/Laws.antt`
 pub record MakeLaws (sky : Sky) (out : List ℕ) : Type 0 where
   -- no second answer fits
   pub once : (r q : Made) (out' out'' : List ℕ) → MakesSky sky out r out' → MakesSky sky out q out'' → (r ≡ q) × (out' ≡ out'')

@@ -39,7 +39,7 @@ sky_lines sky = lines_of (λ i. relative_bytes (sky_string sky (suc i))) 75
 unfoldable pub heard_in : List ℕ → ℕ → List ℕ
 heard_in out i = bytes_of_string (number_from_bits (λ b. get_or out (200 * (i - 1) + 2 * (85 - b)) 0) 85)
 
--- What holds of the symbols of every sky. Proved as `line-laws` in `proofs/Laws.antt`
+-- What holds of the symbols of every sky. Proved as `line_laws` in `proofs/Laws.antt`
 pub record LineLaws (sky : Sky) : Type 0 where
   -- "200 symbols .. per string"
   pub long : length (sky_lines sky) ≡ 15000

@@ -22,7 +22,7 @@ use Rattle.station.specs.declared.Station.{Station}
 use Rattle.station.specs.declared.Stepped.{Stepped}
 use Rattle.station.specs.declared.Gate.TheVariants.{Open, Shut}
 use Rattle.station.specs.Station.{row_at, held_at, is_served, Enters, told_in, book_after, entry_changes, corrected, station_after, OffersTo}
-use Rattle.station.proofs.Served.{open-says, shut-says, entered}
+use Rattle.station.proofs.Served.{open_says, shut_says_lem, entered}
 
 pub same_station : (st st' : Station) → st.rows ≡ st'.rows → st.book ≡ st'.book → st.summary ≡ st'.summary → st ≡ st'
 same_station st st' rows book summary =
@@ -33,17 +33,17 @@ same_station st st' rows book summary =
 pub offer_shut : (st : Station) (card c epoch : ℕ) (s : List ℕ) (why : Refusal) → Enters card c (Shut why) → OffersTo st card c epoch s (record { station = st; answer = Refused why })
 unfolding station_after
 offer_shut st card c epoch s why n =
-    record { answer = n.1 ∙ sym (shut-says card c (offer_tests (held_at st c) epoch s) (told_in st c epoch s) n.0); station = rw n.0 }
+    record { answer = n.1 ∙ sym (shut_says_lem card c (offer_tests (held_at st c) epoch s) (told_in st c epoch s) n.0); station = rw n.0 }
 
 -- the row offered to and put back, the book that a newly stored string has brought its entries to, whether an entry of it changed, and the summary
 module _ (st : Station) (card c epoch : ℕ) (s : List ℕ) (o : Offered) (b : Book) (changed : Bool) (kept : Summary) where
-  pub after-offer : is_served card c ≡ true → Offers (row_at st c) epoch s o
+  pub after_offer_lem : is_served card c ≡ true → Offers (row_at st c) epoch s o
       → b ≡ pick (is_stored o.answer) (brought st.book (shows_of (frame_of o.row))) st.book
       → changed ≡ (is_stored o.answer && changes st.book (shows_of (frame_of o.row)))
       → kept ≡ corrected changed b st.summary
       → OffersTo st card c epoch s (record { station = record { rows = set st.rows c o.row; book = b; summary = kept }; answer = o.answer })
   unfolding station_after
-  after-offer f to book change summary =
+  after_offer_lem f to book change summary =
       let i = offered_is (row_at st c) epoch s o to in
       let stored = stored_said (row_at st c) epoch s o to in
       let joined : b ≡ book_after st.book (row_at st c) epoch s =
@@ -53,7 +53,7 @@ module _ (st : Station) (card c epoch : ℕ) (s : List ℕ) (o : Offered) (b : B
       change ∙ ap₂ (λ (t : Bool) (x : Row). t && changes st.book (shows_of (frame_of x))) stored i
       in
       record {
-        answer = said_by_lem (row_at st c) epoch s o to ∙ sym (open-says card c (offer_tests (held_at st c) epoch s) (told_in st c epoch s) f);
+        answer = said_by_lem (row_at st c) epoch s o to ∙ sym (open_says card c (offer_tests (held_at st c) epoch s) (told_in st c epoch s) f);
         station = rw f
             (same_station _ _ (ap (set st.rows c) i) joined (summary ∙ ap₂ (λ (t : Bool) (x : Book). corrected t x st.summary) so joined));
       }

@@ -13,7 +13,7 @@ use Rattle.station.specs.declared.Station.{Station}
 use Rattle.station.specs.declared.Emptied.{Emptied}
 use Rattle.station.specs.declared.Gate.TheVariants.{Open, Shut}
 use Rattle.station.specs.Station.{Enters, station_reset, Resets}
-use Rattle.station.proofs.Served.{open-says, entered}
+use Rattle.station.proofs.Served.{open_says, entered}
 
 -- a call that is not let in
 pub reset_shut : (st : Station) (card c : ℕ) (why : Refusal) → Enters card c (Shut why) → Resets st card c (record { station = st; answer = Refused why })
@@ -27,4 +27,4 @@ emptied_at st i row = record { station = record { rows = set st.rows i row; book
 pub reset_open : (st : Station) (card c i : ℕ) (row : Row) → Enters card c (Open i) → row ≡ empty_row → Resets st card c (emptied_at st i row)
 unfolding station_reset
 reset_open st card c i row n e =
-    entered (λ (k : ℕ). Resets st card k (emptied_at st i row)) card n (λ f. record { answer = sym (open-says card i [] [] f); station = rw (f, e) })
+    entered (λ (k : ℕ). Resets st card k (emptied_at st i row)) card n (λ f. record { answer = sym (open_says card i [] [] f); station = rw (f, e) })

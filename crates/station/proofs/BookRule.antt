@@ -26,15 +26,15 @@ use Rattle.hearing.specs.Hears.{whole_of}
 use Rattle.channel.specs.Offers.{offer_tests, offered_row, stores_it}
 use Rattle.shows.specs.Shows.{has_pair, shown_at, shows_of, brought}
 use Rattle.channel.specs.History.{Call as OnChannel, Offer as OfferIt, frame_after, held_after}
-use Rattle.channel.proofs.HeldFrame.{held_is, frame-after, runs_long}
+use Rattle.channel.proofs.HeldFrame.{held_is, frame_after_lem, runs_long}
 use Rattle.station.specs.declared.Station.{Station}
 use Rattle.station.specs.declared.Stepped.{Stepped}
 use Rattle.station.specs.declared.Emptied.{Emptied}
 use Rattle.station.specs.Station.{fresh_station, row_at, is_served, book_after, OffersTo, Resets}
 use Rattle.station.specs.History.{Call, Offer, Reset, card_of, channel_of, itself, is_let_in, is_on, calls_on, calls_by, Part, whole, earlier, pairs, ShownIn, Greatest, Runs, fresh, offering, resetting}
 use Rattle.station.proofs.Served.{served_below}
-use Rattle.station.proofs.ChannelRuns.{in_step, on_both, on_own, calls_same, calls_other, after_none, after-some, reset-none, reset-some}
-use Rattle.station.proofs.Holding.{Dated, Holding, holding_same, InShows, Right, AllRight, brought_full, holding-brought}
+use Rattle.station.proofs.ChannelRuns.{in_step, on_both, on_own, calls_same, calls_other, after_none, after_some, reset_none, reset_some}
+use Rattle.station.proofs.Holding.{Dated, Holding, holding_same, InShows, Right, AllRight, brought_full, holding_brought}
 
 -- ---- what a frame shows
 -- the slot and the entry of what is shown
@@ -89,12 +89,12 @@ shows_in f (x ∷ qs) p k e n q = by (eqb p x) (shown_at f x) refl refl n (λ m.
     by false (At j d) a b m ih = inr (ih m)
 
 -- and back: a pair that shows it
-record at_pair (f : Frame) (qs : List ℕ) (k : ℕ) (u : Three) : Type 0 where
+record AtPair (f : Frame) (qs : List ℕ) (k : ℕ) (u : Three) : Type 0 where
   pair : ℕ
   named : is_one_of qs pair ≡ true
   shows : shown_at f pair ≡ At k (entry_of u)
 
-in_pair : (f : Frame) (qs : List ℕ) (k : ℕ) (u : Three) → InShows k u (map (shown_at f) qs) → at_pair f qs k u
+in_pair : (f : Frame) (qs : List ℕ) (k : ℕ) (u : Three) → InShows k u (map (shown_at f) qs) → AtPair f qs k u
 in_pair f [] k u i = absurd i
 in_pair f (x ∷ qs) k u i = by (shown_at f x) refl i (in_pair f qs k u)
   where
@@ -102,10 +102,10 @@ in_pair f (x ∷ qs) k u i = by (shown_at f x) refl i (in_pair f qs k u)
     later true b e = refl
     later false b e = e
 
-    more : at_pair f qs k u → at_pair f (x ∷ qs) k u
+    more : AtPair f qs k u → AtPair f (x ∷ qs) k u
     more a = record { pair = a.pair; named = later (eqb a.pair x) (is_one_of qs a.pair) a.named; shows = a.shows }
 
-    by : (s : Shown) → shown_at f x ≡ s → InShows k u (s ∷ map (shown_at f) qs) → (InShows k u (map (shown_at f) qs) → at_pair f qs k u) → at_pair f (x ∷ qs) k u
+    by : (s : Shown) → shown_at f x ≡ s → InShows k u (s ∷ map (shown_at f) qs) → (InShows k u (map (shown_at f) qs) → AtPair f qs k u) → AtPair f (x ∷ qs) k u
     by Nothing q i ih = more (ih i)
     by (At j d) q i ih =
         ⊎_elim
@@ -117,15 +117,15 @@ in_pair f (x ∷ qs) k u i = by (shown_at f x) refl i (in_pair f qs k u)
 -- ---- what is shown after one call more: what was shown before, and what the channel's frame then shows
 record Newly (call : Call) (cs : List Call) (k : ℕ) (u : Three) : Type 0 where
   served : is_let_in call ≡ true
-  at : at_pair (held_after (itself call ∷ calls_on (channel_of call) cs)) pairs k u
+  at : AtPair (held_after (itself call ∷ calls_on (channel_of call) cs)) pairs k u
 
 part_split : (call : OnChannel) (l m : List OnChannel) → Part m (call ∷ l) → (m ≡ call ∷ l) ⊎ Part m l
 part_split call l m (whole cs) = inl refl
 part_split call l m (earlier n p cs q) = inr q
 
 module _ (call : Call) (cs : List Call) (k : ℕ) (u : Three) where
-  pub shown-kept : ShownIn cs k u → ShownIn (call ∷ cs) k u
-  shown-kept w =
+  pub shown_kept : ShownIn cs k u → ShownIn (call ∷ cs) k u
+  shown_kept w =
       record {
         card = w.card;
         channel = w.channel;
@@ -142,8 +142,8 @@ module _ (call : Call) (cs : List Call) (k : ℕ) (u : Three) where
           subst (Part w.moment) (sym (calls_same w.channel call cs q)) (earlier (itself call) w.moment (calls_on w.channel cs) w.within)
       by false q = subst (Part w.moment) (sym (calls_other w.channel call cs q)) w.within
 
-  shown-new : Newly call cs k u → ShownIn (call ∷ cs) k u
-  shown-new n =
+  shown_new : Newly call cs k u → ShownIn (call ∷ cs) k u
+  shown_new n =
       let c = channel_of call in
       let m = itself call ∷ calls_on c cs in
       record {
@@ -157,8 +157,8 @@ module _ (call : Call) (cs : List Call) (k : ℕ) (u : Three) where
         shows = n.at.shows;
       }
 
-  shown-split : ShownIn (call ∷ cs) k u → ShownIn cs k u ⊎ Newly call cs k u
-  shown-split w = by (is_on w.channel call) refl
+  shown_split : ShownIn (call ∷ cs) k u → ShownIn cs k u ⊎ Newly call cs k u
+  shown_split w = by (is_on w.channel call) refl
     where
       -- a moment before this call
       old : Part w.moment (calls_on w.channel cs) → ShownIn cs k u
@@ -166,9 +166,9 @@ module _ (call : Call) (cs : List Call) (k : ℕ) (u : Three) where
 
       -- this moment
       new : is_let_in call ≡ true → channel_of call ≡ w.channel → w.moment ≡ itself call ∷ calls_on w.channel cs → Newly call cs k u
-      new let-in q e =
+      new let_in_lem q e =
           record {
-            served = let-in;
+            served = let_in_lem;
             at = record {
               pair = w.pair;
               named = w.named;
@@ -188,8 +188,8 @@ module _ (call : Call) (cs : List Call) (k : ℕ) (u : Three) where
 holding_quiet : (call : Call) (cs : List Call) (k : ℕ) (x : Entry) → ((u : Three) → Newly call cs k u → ShownIn cs k u)
     → Holding (ShownIn cs k) x → Holding (ShownIn (call ∷ cs) k) x
 holding_quiet call cs k x q h =
-    holding_same (ShownIn cs k) (ShownIn (call ∷ cs) k) x (λ u. shown-kept call cs k u)
-    (λ u w. ⊎_elim (λ (o : ShownIn cs k u). o) (λ (n : Newly call cs k u). q u n) (shown-split call cs k u w)) h
+    holding_same (ShownIn cs k) (ShownIn (call ∷ cs) k) x (λ u. shown_kept call cs k u)
+    (λ u w. ⊎_elim (λ (o : ShownIn cs k u). o) (λ (n : Newly call cs k u). q u n) (shown_split call cs k u w)) h
 
 -- a call that is not let in shows nothing
 quiet_none : (call : Call) (cs : List Call) (k : ℕ) → is_let_in call ≡ false → (u : Three) → Newly call cs k u → ShownIn cs k u
@@ -231,11 +231,11 @@ holding_stored : (call : Call) (cs : List Call) (k : ℕ) (b : Book) → 1 ≤ k
 holding_stored call cs k b least most e full h =
     let f = held_after (itself call ∷ calls_on (channel_of call) cs) in
     holding_same (λ u. ShownIn cs k u ⊎ InShows k u (shows_of f)) (ShownIn (call ∷ cs) k) (in_slot (brought b (shows_of f)) k)
-    (λ u. ⊎_elim (λ (o : ShownIn cs k u). shown-kept call cs k u o)
-    (λ (i : InShows k u (shows_of f)). shown-new call cs k u (record { served = e; at = in_pair f pairs k u i })))
+    (λ u. ⊎_elim (λ (o : ShownIn cs k u). shown_kept call cs k u o)
+    (λ (i : InShows k u (shows_of f)). shown_new call cs k u (record { served = e; at = in_pair f pairs k u i })))
     (λ u w. ⊎_elim inl (λ (n : Newly call cs k u). inr (subst (λ (x : Three). InShows k x (shows_of f)) (meaning_entry u) (shows_in f pairs n.at.pair k (entry_of u) n.at.named n.at.shows)))
-    (shown-split call cs k u w))
-    (holding-brought k least most (shows_of f) (ShownIn cs k) b (all_right f) full h)
+    (shown_split call cs k u w))
+    (holding_brought k least most (shows_of f) (ShownIn cs k) b (all_right f) full h)
 
 -- ---- over all calls
 record BookHolds (cs : List Call) (st : Station) : Type 0 where
@@ -275,11 +275,11 @@ module _ (card c epoch : ℕ) (s : List ℕ) (cs : List Call) (st : Station) (ru
   held_next : frame_of (offered_row (row_at st c) epoch s) ≡ held_after (OfferIt epoch s ∷ calls_on c cs)
   unfolding held_after
   held_next =
-      frame-after (row_at st c) epoch s (runs_long (calls_on c cs) (row_at st c) ((in_step cs st run).run c (served_below card c e))) ∙ ap (λ (f : Frame). frame_after f epoch s) held
+      frame_after_lem (row_at st c) epoch s (runs_long (calls_on c cs) (row_at st c) ((in_step cs st run).run c (served_below card c e))) ∙ ap (λ (f : Frame). frame_after f epoch s) held
 
   -- all that its frame then shows is brought
-  stored-holds : (next : Station) → next.book ≡ brought st.book (shows_of (frame_of (offered_row (row_at st c) epoch s))) → BookHolds (Offer card c epoch s ∷ cs) next
-  stored-holds next q =
+  stored_holds : (next : Station) → next.book ≡ brought st.book (shows_of (frame_of (offered_row (row_at st c) epoch s))) → BookHolds (Offer card c epoch s ∷ cs) next
+  stored_holds next q =
       let b : next.book ≡ brought st.book (shows_of (held_after (OfferIt epoch s ∷ calls_on c cs))) = q ∙ ap (λ (f : Frame). brought st.book (shows_of f)) held_next in
       record {
         full = subst Full (sym b) (brought_full (shows_of (held_after (OfferIt epoch s ∷ calls_on c cs))) st.book h.full);
@@ -290,11 +290,11 @@ module _ (card c epoch : ℕ) (s : List ℕ) (cs : List Call) (st : Station) (ru
   -- by whether the string was newly stored
   chosen : (next : Station) (t : Bool) → stores_it (frame_of (row_at st c)) epoch s ≡ t
       → next.book ≡ pick t (brought st.book (shows_of (frame_of (offered_row (row_at st c) epoch s)))) st.book → BookHolds (Offer card c epoch s ∷ cs) next
-  chosen next true w q = stored-holds next q
+  chosen next true w q = stored_holds next q
   chosen next false w q = book_quiet (Offer card c epoch s) cs st next q (λ k. quiet_offer card c epoch s cs k (ap (λ (f : Frame). stores_it f epoch s) (sym held) ∙ w)) h
 
-  offer-holds : (next : Station) → next.book ≡ book_after st.book (row_at st c) epoch s → BookHolds (Offer card c epoch s ∷ cs) next
-  offer-holds next q = chosen next (stores_it (frame_of (row_at st c)) epoch s) refl q
+  offer_holds : (next : Station) → next.book ≡ book_after st.book (row_at st c) epoch s → BookHolds (Offer card c epoch s ∷ cs) next
+  offer_holds next q = chosen next (stores_it (frame_of (row_at st c)) epoch s) refl q
 
 step_book : (card c epoch : ℕ) (s : List ℕ) (cs : List Call) (st : Station) (r : Stepped) → Runs cs st → BookHolds cs st → OffersTo st card c epoch s r
     → BookHolds (Offer card c epoch s ∷ cs) r.station
@@ -304,14 +304,14 @@ step_book card c epoch s cs st r run h o = by (is_served card c) refl
     by false e =
         book_quiet (Offer card c epoch s) cs st r.station (ap (λ (x : Station). x.book) (o.station ∙ after_none st card c epoch s e))
         (λ k. quiet_none (Offer card c epoch s) cs k e) h
-    by true e = offer-holds card c epoch s cs st run h e r.station (ap (λ (x : Station). x.book) (o.station ∙ after-some st card c epoch s e))
+    by true e = offer_holds card c epoch s cs st run h e r.station (ap (λ (x : Station). x.book) (o.station ∙ after_some st card c epoch s e))
 
 step_empty : (card c : ℕ) (cs : List Call) (st : Station) (r : Emptied) → BookHolds cs st → Resets st card c r → BookHolds (Reset card c ∷ cs) r.station
 step_empty card c cs st r h o = by (is_served card c) refl
   where
     by : (t : Bool) → is_served card c ≡ t → BookHolds (Reset card c ∷ cs) r.station
-    by false e = book_quiet (Reset card c) cs st r.station (ap (λ (x : Station). x.book) (o.station ∙ reset-none st card c e)) (λ k. quiet_reset card c cs k) h
-    by true e = book_quiet (Reset card c) cs st r.station (ap (λ (x : Station). x.book) (o.station ∙ reset-some st card c e)) (λ k. quiet_reset card c cs k) h
+    by false e = book_quiet (Reset card c) cs st r.station (ap (λ (x : Station). x.book) (o.station ∙ reset_none st card c e)) (λ k. quiet_reset card c cs k) h
+    by true e = book_quiet (Reset card c) cs st r.station (ap (λ (x : Station). x.book) (o.station ∙ reset_some st card c e)) (λ k. quiet_reset card c cs k) h
 
 book_holds : (cs : List Call) (st : Station) → Runs cs st → BookHolds cs st
 book_holds cs st fresh = fresh_holds
@@ -327,8 +327,8 @@ book_full cs st run = (book_holds cs st run).full
 
 module _ (cs : List Call) (st : Station) (run : Runs cs st) (k : ℕ) (least : 1 ≤ k) (most : k ≤ slots) where
   -- EMPTY EXACTLY WHEN NONE WAS SHOWN
-  pub empty-exactly : ((in_slot st.book k).day ≡ 0) ↔ ((u : Three) → ShownIn cs k u → ⊥)
-  empty-exactly =
+  pub empty_exactly : ((in_slot st.book k).day ≡ 0) ↔ ((u : Three) → ShownIn cs k u → ⊥)
+  empty_exactly =
       ⊎_elim
       (λ (w : ShownIn cs k (meaning (in_slot st.book k)) × Dated (in_slot st.book k)).
       ((λ (z : (in_slot st.book k).day ≡ 0) u s. absurd (omega (arith, w.1.0, z))), (λ n. absurd (n (meaning (in_slot st.book k)) w.0))))
@@ -336,8 +336,8 @@ module _ (cs : List Call) (st : Station) (run : Runs cs st) (k : ℕ) (least : 1
       (slot_holds cs st run k least most).one
 
   -- ELSE IT HOLDS THE GREATEST
-  pub greatest-there : ((in_slot st.book k).day ≡ 0 → ⊥) → Greatest cs k (meaning (in_slot st.book k))
-  greatest-there n =
+  pub greatest_there : ((in_slot st.book k).day ≡ 0 → ⊥) → Greatest cs k (meaning (in_slot st.book k))
+  greatest_there n =
       ⊎_elim
       (λ (w : ShownIn cs k (meaning (in_slot st.book k)) × Dated (in_slot st.book k)).
       record { shown = w.0; none_above = (slot_holds cs st run k least most).above })

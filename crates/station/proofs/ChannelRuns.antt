@@ -22,7 +22,7 @@ use Rattle.station.specs.declared.Stepped.{Stepped}
 use Rattle.station.specs.declared.Emptied.{Emptied}
 use Rattle.station.specs.Station.{channels, fresh_station, no_row, row_at, held_at, is_served, told_in, book_after, summary_after, station_after, station_reset, OffersTo, Resets}
 use Rattle.station.specs.History.{Call, Offer, Reset, channel_of, itself, is_let_in, is_on, calls_on, calls_by, Runs, fresh, offering, resetting}
-use Rattle.station.proofs.Served.{open-says, served_below}
+use Rattle.station.proofs.Served.{open_says, served_below}
 
 -- ---- one row
 module _ (rows : List Row) (long : length rows ≡ channels) (c k : ℕ) (row : Row) (served : c < channels) where
@@ -39,60 +39,60 @@ module _ (st : Station) (card c : ℕ) where
   unfolding station_after
   after_none epoch s e = rw e
 
-  pub after-some : (epoch : ℕ) (s : List ℕ) → is_served card c ≡ true
+  pub after_some : (epoch : ℕ) (s : List ℕ) → is_served card c ≡ true
       → station_after st card c epoch s ≡ record {
         rows = set st.rows c (offered_row (row_at st c) epoch s);
         book = book_after st.book (row_at st c) epoch s;
         summary = summary_after st.summary st.book (row_at st c) epoch s;
       }
   unfolding station_after
-  after-some epoch s e = rw e
+  after_some epoch s e = rw e
 
-  pub reset-none : is_served card c ≡ false → station_reset st card c ≡ st
+  pub reset_none : is_served card c ≡ false → station_reset st card c ≡ st
   unfolding station_reset
-  reset-none e = rw e
+  reset_none e = rw e
 
-  pub reset-some : is_served card c ≡ true → station_reset st card c ≡ record { rows = set st.rows c empty_row; book = st.book; summary = st.summary }
+  pub reset_some : is_served card c ≡ true → station_reset st card c ≡ record { rows = set st.rows c empty_row; book = st.book; summary = st.summary }
   unfolding station_reset
-  reset-some e = rw e
+  reset_some e = rw e
 
 -- the row that is theirs
 module _ (st : Station) (card c : ℕ) (long : length st.rows ≡ channels) (e : is_served card c ≡ true) where
-  pub after-own : (epoch : ℕ) (s : List ℕ) → row_at (station_after st card c epoch s) c ≡ offered_row (row_at st c) epoch s
-  after-own epoch s =
-      ap (λ (x : Station). row_at x c) (after-some st card c epoch s e)
+  pub after_own : (epoch : ℕ) (s : List ℕ) → row_at (station_after st card c epoch s) c ≡ offered_row (row_at st c) epoch s
+  after_own epoch s =
+      ap (λ (x : Station). row_at x c) (after_some st card c epoch s e)
       ∙ get_or-set_same st.rows c (offered_row (row_at st c) epoch s) no_row (omega (arith, served_below card c e, long))
 
-  pub reset-own : row_at (station_reset st card c) c ≡ empty_row
-  reset-own = ap (λ (x : Station). row_at x c) (reset-some st card c e) ∙ get_or-set_same st.rows c empty_row no_row (omega (arith, served_below card c e, long))
+  pub reset_own : row_at (station_reset st card c) c ≡ empty_row
+  reset_own = ap (λ (x : Station). row_at x c) (reset_some st card c e) ∙ get_or-set_same st.rows c empty_row no_row (omega (arith, served_below card c e, long))
 
 -- and one that is not: of another channel, or of the same where the call is not let in
 module _ (st : Station) (card c k : ℕ) (apart : is_served card c ≡ true → k ≡ c → ⊥) where
-  pub after-apart : (epoch : ℕ) (s : List ℕ) → row_at (station_after st card c epoch s) k ≡ row_at st k
-  after-apart epoch s = by (is_served card c) refl
+  pub after_apart : (epoch : ℕ) (s : List ℕ) → row_at (station_after st card c epoch s) k ≡ row_at st k
+  after_apart epoch s = by (is_served card c) refl
     where
       by : (t : Bool) → is_served card c ≡ t → row_at (station_after st card c epoch s) k ≡ row_at st k
       by false e = ap (λ (x : Station). row_at x k) (after_none st card c epoch s e)
       by true e =
-          ap (λ (x : Station). row_at x k) (after-some st card c epoch s e) ∙ get_or-set_other st.rows c k (offered_row (row_at st c) epoch s) no_row (apart e)
+          ap (λ (x : Station). row_at x k) (after_some st card c epoch s e) ∙ get_or-set_other st.rows c k (offered_row (row_at st c) epoch s) no_row (apart e)
 
-  pub reset-apart : row_at (station_reset st card c) k ≡ row_at st k
-  reset-apart = by (is_served card c) refl
+  pub reset_apart : row_at (station_reset st card c) k ≡ row_at st k
+  reset_apart = by (is_served card c) refl
     where
       by : (t : Bool) → is_served card c ≡ t → row_at (station_reset st card c) k ≡ row_at st k
-      by false e = ap (λ (x : Station). row_at x k) (reset-none st card c e)
-      by true e = ap (λ (x : Station). row_at x k) (reset-some st card c e) ∙ get_or-set_other st.rows c k empty_row no_row (apart e)
+      by false e = ap (λ (x : Station). row_at x k) (reset_none st card c e)
+      by true e = ap (λ (x : Station). row_at x k) (reset_some st card c e) ∙ get_or-set_other st.rows c k empty_row no_row (apart e)
 
 -- ---- a call on a channel is let in and has its label
 module _ (call : Call) (c : ℕ) where
   pub on_both : is_on c call ≡ true → (is_let_in call ≡ true) × (channel_of call ≡ c)
   on_both e = let p = both (is_let_in call) (eqb (channel_of call) c) e in (p.0, eqb-true (channel_of call) c p.1)
 
-  pub not-let-in : is_let_in call ≡ false → is_on c call ≡ false
-  not-let-in e = ap (λ (t : Bool). t && eqb (channel_of call) c) e
+  pub not_let_in : is_let_in call ≡ false → is_on c call ≡ false
+  not_let_in e = ap (λ (t : Bool). t && eqb (channel_of call) c) e
 
-  pub on-another : (channel_of call ≡ c → ⊥) → is_on c call ≡ false
-  on-another n = by (is_let_in call) (eqb (channel_of call) c) (ne_eqb (channel_of call) c n)
+  pub on_another : (channel_of call ≡ c → ⊥) → is_on c call ≡ false
+  on_another n = by (is_let_in call) (eqb (channel_of call) c) (ne_eqb (channel_of call) c n)
     where
       by : (t u : Bool) → u ≡ false → (t && u) ≡ false
       by true u q = q
@@ -120,7 +120,7 @@ on_none : (call : Call) (cs : List Call) (st : Station) → is_let_in call ≡ f
 on_none call cs st e i =
     record {
       long = i.long;
-      run = λ c h. subst (λ (l : List OnChannel). ChannelRuns l (row_at st c)) (sym (calls_other c call cs (not-let-in call c e))) (i.run c h);
+      run = λ c h. subst (λ (l : List OnChannel). ChannelRuns l (row_at st c)) (sym (calls_other c call cs (not_let_in call c e))) (i.run c h);
     }
 
 -- a call on a channel that leaves its row as the channel's own call does
@@ -148,7 +148,7 @@ on_one call cs st row book summary e there i here =
 -- an offer's answer is its own row's
 pub own_answer : (st : Station) (card c epoch : ℕ) (s : List ℕ) (r : Stepped) → is_served card c ≡ true → OffersTo st card c epoch s r
     → answer_paper r.answer ≡ said_to (held_at st c) epoch s
-own_answer st card c epoch s r e o = o.answer ∙ open-says card c (offer_tests (held_at st c) epoch s) (told_in st c epoch s) e
+own_answer st card c epoch s r e o = o.answer ∙ open_says card c (offer_tests (held_at st c) epoch s) (told_in st c epoch s) e
 
 -- what a station's offer says of its row's
 pub row_offers : (st : Station) (card c epoch : ℕ) (s : List ℕ) (r : Stepped) → is_served card c ≡ true → OffersTo st card c epoch s r
@@ -177,7 +177,7 @@ step_offer card c epoch s cs st r i o = by (is_served card c) refl
     by : (t : Bool) → is_served card c ≡ t → InStep (Offer card c epoch s ∷ cs) r.station
     by false e = subst (InStep (Offer card c epoch s ∷ cs)) (sym (o.station ∙ after_none st card c epoch s e)) (on_none (Offer card c epoch s) cs st e i)
     by true e =
-        subst (InStep (Offer card c epoch s ∷ cs)) (sym (o.station ∙ after-some st card c epoch s e))
+        subst (InStep (Offer card c epoch s ∷ cs)) (sym (o.station ∙ after_some st card c epoch s e))
         (on_one (Offer card c epoch s) cs st (offered_row (row_at st c) epoch s) (book_after st.book (row_at st c) epoch s)
         (summary_after st.summary st.book (row_at st c) epoch s) e (served_below card c e) i
         (offering-it epoch s (calls_on c cs) (row_at st c) (record { row = offered_row (row_at st c) epoch s; answer = r.answer }) (i.run c (served_below card c e)) (row_offers st card c epoch s r e o)))
@@ -186,9 +186,9 @@ step_reset : (card c : ℕ) (cs : List Call) (st : Station) (r : Emptied) → In
 step_reset card c cs st r i o = by (is_served card c) refl
   where
     by : (t : Bool) → is_served card c ≡ t → InStep (Reset card c ∷ cs) r.station
-    by false e = subst (InStep (Reset card c ∷ cs)) (sym (o.station ∙ reset-none st card c e)) (on_none (Reset card c) cs st e i)
+    by false e = subst (InStep (Reset card c ∷ cs)) (sym (o.station ∙ reset_none st card c e)) (on_none (Reset card c) cs st e i)
     by true e =
-        subst (InStep (Reset card c ∷ cs)) (sym (o.station ∙ reset-some st card c e))
+        subst (InStep (Reset card c ∷ cs)) (sym (o.station ∙ reset_some st card c e))
         (on_one (Reset card c) cs st empty_row st.book st.summary e (served_below card c e) i (resetting-it (calls_on c cs) (row_at st c) (i.run c (served_below card c e))))
 
 -- EACH ROW IS A CHANNEL'S RUN

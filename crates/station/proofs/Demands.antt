@@ -32,7 +32,7 @@ use Rattle.channel.specs.Offers.{number_said, is_taken, OnlyCounted, TakenCounte
 use Rattle.shows.specs.Shows.{shows_of, brought, changes}
 use Rattle.channel.specs.History.{record_after}
 use Rattle.channel.proofs.HeldFrame.{held_is, taken_exactly}
-use Rattle.channel.proofs.Counting.{refused-only, taken-counted}
+use Rattle.channel.proofs.Counting.{refused_only, taken_counted}
 use Rattle.channel.proofs.TrueCounts.{tallies_are, tallies_add_up}
 use Rattle.channel.proofs.LatestRecord.{record_is, start_is}
 use Rattle.channel.proofs.Relock.{every_phase}
@@ -51,15 +51,15 @@ use Rattle.station.specs.Demand3.{Answered, SameShown, SameBooks, BookRule}
 use Rattle.station.specs.Health.{KnownIn, UsableIn, HealthIn, DifferInBit65, ReservedBit, health_before, UsedUnfit, RulesDiffer}
 use Rattle.station.specs.Demands.{AllDemands}
 use Rattle.station.proofs.Served.{served_below}
-use Rattle.station.proofs.ChannelRuns.{in_step, after_none, after-some, reset-none, reset-some, row_offers}
+use Rattle.station.proofs.ChannelRuns.{in_step, after_none, after_some, reset_none, reset_some, row_offers}
 use Rattle.station.proofs.EveryHistory.{every_history}
 use Rattle.station.proofs.EveryCall.{station_answers, strings_answer, station_numbers, string_numbers, no_output_byte}
 use Rattle.station.proofs.Gathered.{checking, again, encoding, relative, by_name, ranges, round_trips}
 use Rattle.station.proofs.Sent.{heard_as_sent}
 use Rattle.station.proofs.EitherWay.{either_way, histories_alike}
-use Rattle.station.proofs.BookRule.{empty-exactly, greatest-there}
-use Rattle.station.proofs.Reorder.{offer_said, reset_said, same-book}
-use Rattle.station.proofs.Summary.{shown_filled, held, summary-rule}
+use Rattle.station.proofs.BookRule.{empty_exactly, greatest_there}
+use Rattle.station.proofs.Reorder.{offer_said, reset_said, same_book}
+use Rattle.station.proofs.Summary.{shown_filled, held, summary_rule}
 use Rattle.station.proofs.WellMade.{runs_made}
 use Rattle.station.proofs.Exchange.{runs_of, every_run, exchanged, reordered}
 use Rattle.station.proofs.Tallied.{tallied}
@@ -69,7 +69,7 @@ use Rattle.station.proofs.Relock.{relocked}
 -- ---- DEMAND 1
 pub shut_leaves : (st : Station) (card c : ℕ) → is_served card c ≡ false → ShutLeaves st card c
 shut_leaves st card c e =
-    record { offers = λ epoch s r o. o.station ∙ after_none st card c epoch s e; resets = λ r o. o.station ∙ reset-none st card c e }
+    record { offers = λ epoch s r o. o.station ∙ after_none st card c epoch s e; resets = λ r o. o.station ∙ reset_none st card c e }
 
 pub refusal_leaves : (st : Station) (card c epoch : ℕ) (s : List ℕ) (r : Stepped) → WellMade st → is_served card c ≡ true
     → OffersTo st card c epoch s r → is_taken r.answer ≡ false → RefusalLeaves st c (number_said r.answer) r.station
@@ -78,12 +78,12 @@ refusal_leaves st card c epoch s r made e o n =
     let next = offered_row row epoch s in
     let p = row_offers st card c epoch s r e o in
     let q : stores_it (frame_of row) epoch s ≡ false = ap (λ (t : Bool). t && not (is_here (frame_of row) epoch (whole_of s))) (sym (taken_exactly row epoch s (record { row = next; answer = r.answer }) p) ∙ n) in
-    subst (RefusalLeaves st c (number_said r.answer)) (sym (o.station ∙ after-some st card c epoch s e)) (record {
+    subst (RefusalLeaves st c (number_said r.answer)) (sym (o.station ∙ after_some st card c epoch s e)) (record {
       book = ap (λ (t : Bool). pick t (brought st.book (shows_of (frame_of next))) st.book) q;
       summary = ap (λ (t : Bool). corrected (t && changes st.book (shows_of (frame_of next))) (book_after st.book row epoch s) st.summary) q;
       others = λ k d. get_or-set_other st.rows c k next no_row d;
       own = subst (OnlyCounted (number_said r.answer) row) (sym (get_or-set_same st.rows c next no_row (omega (arith, served_below card c e, made.rows))))
-          (refused-only row epoch s (record { row = next; answer = r.answer }) p n);
+          (refused_only row epoch s (record { row = next; answer = r.answer }) p n);
     })
 
 -- ---- every answer is what the calls before determine
@@ -116,21 +116,21 @@ taken_counts st card c epoch s r made e o n =
     let row = row_at st c in
     let next = offered_row row epoch s in
     subst (λ (x : Row). TakenCounted r.answer row.tallies x.tallies)
-    (sym (ap (λ (x : Station). row_at x c) (o.station ∙ after-some st card c epoch s e) ∙ get_or-set_same st.rows c next no_row (omega (arith, served_below card c e, made.rows))))
-    (taken-counted row epoch s (record { row = next; answer = r.answer }) (row_offers st card c epoch s r e o) n)
+    (sym (ap (λ (x : Station). row_at x c) (o.station ∙ after_some st card c epoch s e) ∙ get_or-set_same st.rows c next no_row (omega (arith, served_below card c e, made.rows))))
+    (taken_counted row epoch s (record { row = next; answer = r.answer }) (row_offers st card c epoch s r e o) n)
 
 pub reset_counts : (st : Station) (card c : ℕ) (r : Emptied) → WellMade st → is_served card c ≡ true → Resets st card c r → all_counts (row_at r.station c).tallies ≡ replicate 14 0
 unfolding empty_row
 reset_counts st card c r made e o =
-    ap (λ (x : Station). all_counts (row_at x c).tallies) (o.station ∙ reset-some st card c e)
+    ap (λ (x : Station). all_counts (row_at x c).tallies) (o.station ∙ reset_some st card c e)
     ∙ ap (λ (x : Row). all_counts x.tallies) (get_or-set_same st.rows c empty_row no_row (omega (arith, served_below card c e, made.rows)))
 
 -- ---- DEMAND 3
 pub two_stations : (cs ds : List Call) → SameShown cs ds → SameBooks cs ds
-two_stations cs ds same st st' run run' = same-book cs ds st st' run run' (λ k u. (same k u).0) (λ k u. (same k u).1)
+two_stations cs ds same st st' run run' = same_book cs ds st st' run run' (λ k u. (same k u).0) (λ k u. (same k u).1)
 
 pub book_rule : (cs : List Call) (st : Station) → Runs cs st → (slot : ℕ) → 1 ≤ slot → slot ≤ slots → BookRule cs st slot
-book_rule cs st run slot least most = record { greatest = greatest-there cs st run slot least most; empty = empty-exactly cs st run slot least most }
+book_rule cs st run slot least most = record { greatest = greatest_there cs st run slot least most; empty = empty_exactly cs st run slot least most }
 
 -- ---- HEALTH
 -- when l counts
@@ -178,13 +178,13 @@ abbrev judgement : Immediate → Book → Health
 judgement i b = judged (top_of_b i) (l_counted (model_of i) (l_of i)) (status_in i b)
 
 module _ (cs : List Call) (st : Station) (run : Runs cs st) (card c : ℕ) (e : is_served card c ≡ true) where
-  kept-is : record_in (kept_at st c) ≡ record_after (calls_on c cs)
-  kept-is = record_is (calls_on c cs) (row_at st c) ((in_step cs st run).run c (served_below card c e))
+  kept_is : record_in (kept_at st c) ≡ record_after (calls_on c cs)
+  kept_is = record_is (calls_on c cs) (row_at st c) ((in_step cs st run).run c (served_below card c e))
 
   -- a record, and an entry for its n, in the station: so the calls give them
-  known-there : has_record (kept_at st c) ≡ true → is_slot (satellite_of (kept_at st c)) ≡ true → is_empty st.book (satellite_of (kept_at st c)) ≡ false → KnownIn cs c
+  known_there : has_record (kept_at st c) ≡ true → is_slot (satellite_of (kept_at st c)) ≡ true → is_empty st.book (satellite_of (kept_at st c)) ≡ false → KnownIn cs c
   unfolding record_in
-  known-there h l n =
+  known_there h l n =
       let i = kept_at st c in
       let k = satellite_of i in
       let b = both (leb 1 k) (leb k slots) l in
@@ -193,10 +193,10 @@ module _ (cs : List Call) (st : Station) (run : Runs cs st) (card c : ℕ) (e : 
         two = string_at i.strings 1;
         three = string_at i.strings 2;
         four = string_at i.strings 3;
-        kept = sym kept-is ∙ rw h;
+        kept = sym kept_is ∙ rw h;
         slot = l;
         entry = meaning (in_slot st.book k);
-        greatest = greatest-there cs st run k (leb-true 1 k b.0) (leb-true k slots b.1) (eqb-false (in_slot st.book k).day 0 n);
+        greatest = greatest_there cs st run k (leb-true 1 k b.0) (leb-true k slots b.1) (eqb-false (in_slot st.book k).day 0 n);
       }
 
   -- and back
@@ -207,7 +207,7 @@ module _ (cs : List Call) (st : Station) (run : Runs cs st) (card c : ℕ) (e : 
     -- there is a record, and it is those four strings
     there : (has_record (kept_at st c) ≡ true) × (kept_four (kept_at st c) ≡ w.one ∷ w.two ∷ w.three ∷ w.four ∷ [])
     unfolding record_in
-    there = by (has_record (kept_at st c)) refl (kept-is ∙ w.kept)
+    there = by (has_record (kept_at st c)) refl (kept_is ∙ w.kept)
       where
         by : (t : Bool) → has_record (kept_at st c) ≡ t → pick t (kept_four (kept_at st c)) [] ≡ w.one ∷ w.two ∷ w.three ∷ w.four ∷ []
             → (has_record (kept_at st c) ≡ true) × (kept_four (kept_at st c) ≡ w.one ∷ w.two ∷ w.three ∷ w.four ∷ [])
@@ -245,25 +245,25 @@ module _ (cs : List Call) (st : Station) (run : Runs cs st) (card c : ℕ) (e : 
         (ap₂ (λ (b l : ℕ). judged b l (status_of (meaning (in_slot st.book n)))) top-is l-is ∙ ap (λ (t : Three). judged top its-l (status_of t)) its-entry)
 
   -- what the station's own answer stands on
-  health-is : (h : Health) → health_by (kept_at st c) st.book ≡ h → ((h ≡ Unknown) × (KnownIn cs c → ⊥)) ⊎ KnownIn cs c
+  health_is : (h : Health) → health_by (kept_at st c) st.book ≡ h → ((h ≡ Unknown) × (KnownIn cs c → ⊥)) ⊎ KnownIn cs c
   unfolding health_by
-  health-is h = by (has_record (kept_at st c)) (is_slot (satellite_of (kept_at st c))) (is_empty st.book (satellite_of (kept_at st c))) refl refl refl
+  health_is h = by (has_record (kept_at st c)) (is_slot (satellite_of (kept_at st c))) (is_empty st.book (satellite_of (kept_at st c))) refl refl refl
     where
       none : health_by (kept_at st c) st.book ≡ Unknown → KnownIn cs c → ⊥
       none q w = not_unknown (top w) (its-l w) (status_of w.entry) (sym (known-judged w) ∙ q)
 
       by : (t u v : Bool) → has_record (kept_at st c) ≡ t → is_slot (satellite_of (kept_at st c)) ≡ u → is_empty st.book (satellite_of (kept_at st c)) ≡ v
           → pick (t && (u && not v)) (judgement (kept_at st c) st.book) Unknown ≡ h → ((h ≡ Unknown) × (KnownIn cs c → ⊥)) ⊎ KnownIn cs c
-      by true true false a b d q = inr (known-there a b d)
+      by true true false a b d q = inr (known_there a b d)
       by true true true a b d q = inl (sym q, none (rw (a, b, d)))
       by true false v a b d q = inl (sym q, none (rw (a, b)))
       by false u v a b d q = inl (sym q, none (rw a))
 
   -- HEALTH OVER THE CALLS
-  pub health-in : HealthIn cs c (health_by (kept_at st c) st.book)
-  health-in =
+  pub health_in : HealthIn cs c (health_by (kept_at st c) st.book)
+  health_in =
       let h = health_by (kept_at st c) st.book in
-      let split = health-is h refl in
+      let split = health_is h refl in
       record {
         unknown = (
           (λ q w. not_unknown (top w) (its-l w) (status_of w.entry) (sym (known-judged w) ∙ q)),
@@ -303,8 +303,8 @@ module _ (i : Immediate) (b : Book) where
   abbrev l : ℕ
   l = word_of (string_at i.strings 2) 65 65
 
-  not-by-l : (M ≡ 0 → ⊥) → l ≡ 1 → judgement i b ≡ Usable → ⊥
-  not-by-l other raised q =
+  not_by_l : (M ≡ 0 → ⊥) → l ≡ 1 → judgement i b ≡ Usable → ⊥
+  not_by_l other raised q =
       ⊎_elim other (λ (z : l ≡ 0). omega arith) ((l_counts M l).0 ((judged_usable (top_of_b i) (l_counted M l) (status_in i b)).0 q).1.0)
 
   never_usable : (M ≡ 0 → ⊥) → l ≡ 1 → health_by i b ≡ Usable → ⊥
@@ -312,20 +312,20 @@ module _ (i : Immediate) (b : Book) where
   never_usable other raised = by (is_known i b)
     where
       by : (t : Bool) → pick t (judgement i b) Unknown ≡ Usable → ⊥
-      by true q = not-by-l other raised q
+      by true q = not_by_l other raised q
       by false q = not_both q
 
-  not-usable-now : UsedUnfit i b → health_by i b ≡ NotUsable
+  not_usable_now : UsedUnfit i b → health_by i b ≡ NotUsable
   unfolding health_by health_before
-  not-usable-now u = by (is_known i b) u.before
+  not_usable_now u = by (is_known i b) u.before
     where
       by : (t : Bool) → pick t (pick (eqb (top_of_b i) 0 && eqb (status_in i b) 1) Usable NotUsable) Unknown ≡ Usable → pick t (judgement i b) Unknown ≡ NotUsable
-      by true q = not_usable (top_of_b i) (l_counted M l) (status_in i b) (not-by-l u.M u.l)
+      by true q = not_usable (top_of_b i) (l_counted M l) (status_in i b) (not_by_l u.M u.l)
       by false q = absurd (not_both q)
 
   -- l counts and is not 0: then M is not 00, and l is 1
-  used-unfit : health_before i b ≡ Usable → (l_counted M l ≡ 0 → ⊥) → UsedUnfit i b
-  used-unfit q n =
+  used_unfit : health_before i b ≡ Usable → (l_counted M l ≡ 0 → ⊥) → UsedUnfit i b
+  used_unfit q n =
       let z : l ≡ 0 → ⊥ = λ e. n ((l_counts M l).1 (inr e)) in
       record { before = q; M = λ e. n ((l_counts M l).1 (inl e)); l = omega (arith, word_lt (string_at i.strings 2) 65 65) }
 
@@ -336,13 +336,13 @@ module _ (i : Immediate) (b : Book) where
       by : (t u v w : Bool) → is_known i b ≡ t → eqb (top_of_b i) 0 ≡ u → eqb (l_counted M l) 0 ≡ v → eqb (status_in i b) 1 ≡ w
           → pick t (pick (u && (v && w)) Usable NotUsable) Unknown ≡ pick t (pick (u && w) Usable NotUsable) Unknown
       by true true true w p q r s = refl
-      by true true false true p q r s = absurd (n (used-unfit (rw (p, q, s)) (eqb-false (l_counted M l) 0 r)))
+      by true true false true p q r s = absurd (n (used_unfit (rw (p, q, s)) (eqb-false (l_counted M l) 0 r)))
       by true true false false p q r s = refl
       by true false v w p q r s = refl
       by false u v w p q r s = refl
 
 pub rules_differ : (i : Immediate) (b : Book) → RulesDiffer i b
-rules_differ i b = record { there = not-usable-now i b; elsewhere = as_before i b }
+rules_differ i b = record { there = not_usable_now i b; elsewhere = as_before i b }
 
 -- ---- the station that the calls leave, as a function
 pub runs_is : (cs : List Call) (st : Station) → Runs cs st → st ≡ station_of cs
@@ -388,13 +388,13 @@ demands =
       reordering = reordered;
       two_stations = two_stations;
       book = book_rule;
-      summary = summary-rule;
+      summary = summary_rule;
       others_leave = others_leave;
       answered_alike = λ card st st' w w' agree. answered_alike card st st' agree w.rows w'.rows;
       isolated = isolated;
       every_beat = λ h phase. let w = every_phase h phase in (w.0, (w.1, w.2));
       relock = relocked;
-      health = health-in;
+      health = health_in;
       reserved_bit = reserved_bit;
       never_usable = never_usable;
       rules_differ = rules_differ;

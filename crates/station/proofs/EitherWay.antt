@@ -20,7 +20,7 @@ use Rattle.station.specs.declared.Station.{Station}
 use Rattle.station.specs.declared.Stepped.{Stepped}
 use Rattle.station.specs.declared.Emptied.{Emptied}
 use Rattle.station.specs.Station.{held_at, station_tests, told_in, station_after, OffersTo, Resets}
-use Rattle.station.proofs.Served.{open-says}
+use Rattle.station.proofs.Served.{open_says}
 use Rattle.station.specs.History.{Call, Offer, Reset, channel_of, card_of}
 use Rattle.station.specs.Said.{Said, said, none, offers, resets}
 use Rattle.station.specs.EitherWay.{AlikeStepped, EitherWay, InverseOffered, ButPolarity, AlikeRuns, EveryHistoryAlike}
@@ -28,28 +28,28 @@ use Rattle.station.proofs.OnceOnly.{offers_to_once, resets_once}
 
 -- ---- an offer looks at its bytes by their shape, by the plain string that they are read as, and by their first symbol
 module _ (st : Station) (card c epoch : ℕ) (s t : List ℕ) (e : Turned s t) where
-  station-turned : station_after st card c epoch t ≡ station_after st card c epoch s
+  station_turned : station_after st card c epoch t ≡ station_after st card c epoch s
   unfolding station_after
-  station-turned = rw (e.shape, e.plain)
+  station_turned = rw (e.shape, e.plain)
 
   module _ (r q : Stepped) (o : OffersTo st card c epoch s r) (p : OffersTo st card c epoch t q) where
-    pub turned-way : AlikeStepped r q
-    turned-way =
+    pub turned_way : AlikeStepped r q
+    turned_way =
         let f = held_at st c in
         let ts = station_tests st card c epoch s in
         record {
           answer = other_way_lem (first_of ts) (place_of ts) (number_in (whole_of s)) (verdict_in s) (news_of f epoch (whole_of s)) (polarity_of (number_of s))
               (polarity_of (number_of t)) r.answer q.answer e.polarity (o.answer ∙ ap (answer_of ts) (polarity_in f epoch s))
               (rw (e.shape, e.plain) at (p.answer ∙ ap (answer_of (station_tests st card c epoch t)) (polarity_in f epoch t)));
-          station = p.station ∙ station-turned ∙ sym o.station;
+          station = p.station ∙ station_turned ∙ sym o.station;
         }
 
 -- OFFERED UPRIGHT OR INVERTED, to any station
 pub either_way : (st : Station) (card c epoch : ℕ) → EitherWay st card c epoch
 either_way st card c epoch =
     record {
-      alike = λ x r q h o p. turned-way st card c epoch (bytes_of_string x) (bytes_of_string (inverse x)) (inverse_turned x h) r q o p;
-      other_shape = λ s r l m o. o.answer ∙ open-says card c (offer_tests (held_at st c) epoch s) (told_in st c epoch s) l ∙ rw m;
+      alike = λ x r q h o p. turned_way st card c epoch (bytes_of_string x) (bytes_of_string (inverse x)) (inverse_turned x h) r q o p;
+      other_shape = λ s r l m o. o.answer ∙ open_says card c (offer_tests (held_at st c) epoch s) (told_in st c epoch s) l ∙ rw m;
     }
 
 -- ---- one call after the other
@@ -72,10 +72,10 @@ module _ (st : Station) where
     station : left' ≡ left
     answers : (y ≡ x) ⊎ (InverseOffered x.call y.call × ButPolarity x.answer y.answer)
 
-  offered-again : (card c epoch : ℕ) (s : List ℕ) (r : Stepped) (asker k e : ℕ) (t : List ℕ) (q : Stepped) → OffersTo st card c epoch s r → OffersTo st asker k e t q
+  offered_again : (card c epoch : ℕ) (s : List ℕ) (r : Stepped) (asker k e : ℕ) (t : List ℕ) (q : Stepped) → OffersTo st card c epoch s r → OffersTo st asker k e t q
       → Offer asker k e t ≡ Offer card c epoch s
       → Both (said (Offer card c epoch s) (answer_paper r.answer)) (said (Offer asker k e t) (answer_paper q.answer)) r.station q.station
-  offered-again card c epoch s r asker k e t q o p same =
+  offered_again card c epoch s r asker k e t q o p same =
       let here : OffersTo st card c epoch s q =
       subst (λ (b : List ℕ). OffersTo st card c epoch b q) (ap bytes_of same)
       (subst (λ (n : ℕ). OffersTo st card c n t q) (ap epoch_of same)
@@ -87,10 +87,10 @@ module _ (st : Station) where
         answers = inl (ap₂ (λ (a : Call) (x : Stepped). said a (answer_paper x.answer)) same one);
       }
 
-  offered-inverted : (card c epoch : ℕ) (s : List ℕ) (r : Stepped) (asker k e : ℕ) (t : List ℕ) (q : Stepped) → OffersTo st card c epoch s r → OffersTo st asker k e t q
+  offered_inverted : (card c epoch : ℕ) (s : List ℕ) (r : Stepped) (asker k e : ℕ) (t : List ℕ) (q : Stepped) → OffersTo st card c epoch s r → OffersTo st asker k e t q
       → InverseOffered (Offer card c epoch s) (Offer asker k e t)
       → Both (said (Offer card c epoch s) (answer_paper r.answer)) (said (Offer asker k e t) (answer_paper q.answer)) r.station q.station
-  offered-inverted card c epoch s r asker k e t q o p i =
+  offered_inverted card c epoch s r asker k e t q o p i =
       let turned : Turned s t =
       subst (λ (b : List ℕ). Turned s b) (sym (ap bytes_of i.is))
       (subst (λ (b : List ℕ). Turned b (bytes_of_string (inverse i.string))) (sym (ap bytes_of i.was)) (inverse_turned i.string i.small))
@@ -100,13 +100,13 @@ module _ (st : Station) where
       (subst (λ (n : ℕ). OffersTo st card n e t q) (ap channel_of i.is ∙ sym (ap channel_of i.was))
       (subst (λ (n : ℕ). OffersTo st n k e t q) (ap card_of i.is ∙ sym (ap card_of i.was)) p))
       in
-      let w = turned-way st card c epoch s t turned r q o here in
+      let w = turned_way st card c epoch s t turned r q o here in
       record { station = w.station; answers = inr (i, record { answer = r.answer; was = refl; is = ap answer_paper w.answer }) }
 
   offered : (card c epoch : ℕ) (s : List ℕ) (r : Stepped) (asker k e : ℕ) (t : List ℕ) (q : Stepped) → OffersTo st card c epoch s r → OffersTo st asker k e t q
       → (Offer asker k e t ≡ Offer card c epoch s) ⊎ InverseOffered (Offer card c epoch s) (Offer asker k e t)
       → Both (said (Offer card c epoch s) (answer_paper r.answer)) (said (Offer asker k e t) (answer_paper q.answer)) r.station q.station
-  offered card c epoch s r asker k e t q o p = ⊎_elim (offered-again card c epoch s r asker k e t q o p) (offered-inverted card c epoch s r asker k e t q o p)
+  offered card c epoch s r asker k e t q o p = ⊎_elim (offered_again card c epoch s r asker k e t q o p) (offered_inverted card c epoch s r asker k e t q o p)
 
   emptied : (card c : ℕ) (r : Emptied) (asker k : ℕ) (q : Emptied) → Resets st card c r → Resets st asker k q → (Reset asker k ≡ Reset card c) ⊎ InverseOffered (Reset card c) (Reset asker k)
       → Both (said (Reset card c) (written_paper r.answer)) (said (Reset asker k) (written_paper q.answer)) r.station q.station

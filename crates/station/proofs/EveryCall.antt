@@ -21,13 +21,13 @@ use Rattle.strings.specs.Number.{number_of, bytes_of_string}
 use Rattle.strings.specs.Hamming.{ruling, is_damaged, mended}
 use Rattle.strings.specs.Numbers.{test, first_of, left_by, answer_of}
 use Rattle.strings.specs.Calls.{no_room, checked_paper, sound_tests, string_tests, check_tests, verdict_told, Checks}
-use Rattle.strings.proofs.CheckRule.{check_once, check-first, check_numbers}
+use Rattle.strings.proofs.CheckRule.{check_once, check_first, check_numbers}
 use Rattle.relative.specs.declared.Decoded.{Decoded}
 use Rattle.relative.specs.declared.Decoded.TheVariants.{Read as Decode, Refused as NotDecoded}
 use Rattle.relative.specs.Relative.{read_relative, write_relative}
 use Rattle.relative.specs.Polarity.{first_symbol, polarity_of}
 use Rattle.relative.specs.Calls.{reading_tests, ReadsRelative, writing_tests, WritesRelative}
-use Rattle.relative.proofs.RelativeCode.{polarity_told, reads-once, writes-once, reads-exactly, writes-exactly}
+use Rattle.relative.proofs.RelativeCode.{polarity_told, reads_once, writes_once, reads_exactly, writes_exactly}
 use Rattle.records.specs.declared.kinds.Kind.{Kind}
 use Rattle.records.specs.declared.named.Record.{Record}
 use Rattle.records.specs.Records.{kind_of, list_of, record_of}
@@ -38,7 +38,7 @@ use Rattle.words.specs.Values.{values_of, first_bad}
 use Rattle.words.specs.Calls.{number_in, range_test, read_tests, reading_words, Reads, write_tests, string_of, Writes}
 use Rattle.records.proofs.RecordLists.{record_kind}
 use Rattle.words.proofs.RecordLists.{record_values}
-use Rattle.words.proofs.RoundTrips.{read-once, read_numbers, write-once, write-numbers}
+use Rattle.words.proofs.RoundTrips.{read_once, read_numbers, write_once, write_numbers}
 use Rattle.words.specs.Immediate.{immediate_of}
 use Rattle.book.specs.Entry.{meaning}
 use Rattle.book.specs.Book.{in_slot}
@@ -70,16 +70,16 @@ one A Fits once r f = record { answer = r; fits = f; only = λ q g. once q r g f
 
 -- ---- the calls on a station
 module _ (st : Station) where
-  offer-one : (card c epoch : ℕ) (s : List ℕ) → OneAnswer Stepped (OffersTo st card c epoch s)
-  offer-one card c epoch s =
+  offer_one : (card c epoch : ℕ) (s : List ℕ) → OneAnswer Stepped (OffersTo st card c epoch s)
+  offer_one card c epoch s =
       one Stepped (OffersTo st card c epoch s) (offers_to_once st card c epoch s) (record { station = station_after st card c epoch s; answer = (some_answer st card c epoch s).answer })
       (offer_answers st card c epoch s)
 
-  reset-one : (card c : ℕ) → OneAnswer Emptied (Resets st card c)
-  reset-one card c = one Emptied (Resets st card c) (resets_once st card c) (record { station = station_reset st card c; answer = reset_answer card c }) (reset_answers st card c)
+  reset_one : (card c : ℕ) → OneAnswer Emptied (Resets st card c)
+  reset_one card c = one Emptied (Resets st card c) (resets_once st card c) (record { station = station_reset st card c; answer = reset_answer card c }) (reset_answers st card c)
 
-  record-one : (card c : ℕ) → OneAnswer RecordFound (FindsRecord st card c)
-  record-one card c =
+  record_one : (card c : ℕ) → OneAnswer RecordFound (FindsRecord st card c)
+  record_one card c =
       let ts = record_tests st card c in
       ⊎_elim
       (λ (z : first_of ts ≡ 0).
@@ -89,8 +89,8 @@ module _ (st : Station) where
       one RecordFound (FindsRecord st card c) (records_once st card c) (NoRecord f.refusal) (record { answer = f.says []; words = λ w start q. no_record q }))
       (settles ts tt)
 
-  entry-one : (card slot : ℕ) → OneAnswer EntryFound (FindsEntry st card slot)
-  entry-one card slot =
+  entry_one : (card slot : ℕ) → OneAnswer EntryFound (FindsEntry st card slot)
+  entry_one card slot =
       let ts = entry_tests st card slot in
       let e = in_slot st.book slot in
       ⊎_elim
@@ -111,9 +111,9 @@ module _ (st : Station) where
       (λ (f : Fitting ts). one TalliesFound (FindsTallies st card c) (tallies_once st card c) (NoTallies f.refusal) (f.says (all_counts t)))
       (settles ts tt)
 
-  summary-one : (card : ℕ) → OneAnswer SummaryFound (FindsSummary st card)
+  summary_one : (card : ℕ) → OneAnswer SummaryFound (FindsSummary st card)
   unfolding FindsSummary
-  summary-one card =
+  summary_one card =
       let ts = card_test card ∷ [] in
       let s = st.summary in
       ⊎_elim
@@ -121,9 +121,9 @@ module _ (st : Station) where
       (λ (f : Fitting ts). one SummaryFound (FindsSummary st card) (summaries_once st card) (NoSummary f.refusal) (f.says (summary_numbers s)))
       (settles ts tt)
 
-  health-one : (card c : ℕ) → OneAnswer HealthFound (FindsHealth st card c)
+  health_one : (card c : ℕ) → OneAnswer HealthFound (FindsHealth st card c)
   unfolding FindsHealth
-  health-one card c =
+  health_one card c =
       let ts = gate_tests card c in
       let h = health_by (kept_at st c) st.book in
       ⊎_elim
@@ -134,7 +134,7 @@ module _ (st : Station) where
   -- EVERY CALL ANSWERS, of any station
   pub station_answers : StationAnswers st
   station_answers =
-      record { offer = offer-one; reset = reset-one; immediate_of_lem = record-one; entry_of = entry-one; tallies_of = tallies_one; summary_of = summary-one; health_of = health-one }
+      record { offer = offer_one; reset = reset_one; immediate_of_lem = record_one; entry_of = entry_one; tallies_of = tallies_one; summary_of = summary_one; health_of = health_one }
 
   -- THE FIRST THAT FITS IS GIVEN, AND GIVEN ONLY THEN
   pub station_numbers : StationNumbers st
@@ -155,45 +155,45 @@ pair e = ap₂ (λ x y. (x, y)) e.0 e.1
 
 module _ (s out : List ℕ) where
   -- a string that no test of the check fits has a verdict
-  verdict-there : first_of (check_tests s out) ≡ 0 → (r : Checked) × (checked_paper r ≡ 0 ∷ verdict_told (ruling (number_of s)))
-  verdict-there z = by (ruling (number_of s)) refl
+  verdict_there : first_of (check_tests s out) ≡ 0 → (r : Checked) × (checked_paper r ≡ 0 ∷ verdict_told (ruling (number_of s)))
+  verdict_there z = by (ruling (number_of s)) refl
     where
       by : (u : Ruling) → ruling (number_of s) ≡ u → (r : Checked) × (checked_paper r ≡ 0 ∷ verdict_told u)
       by (Sound v) q = (Taken v, refl)
-      by (Damaged d) q = absurd (true≢false (sym (ap is_damaged q) ∙ (check-first s out z).1.sound))
+      by (Damaged d) q = absurd (true≢false (sym (ap is_damaged q) ∙ (check_first s out z).1.sound))
 
-  check-one : OneAnswer (Checked × List ℕ) (λ r. Checks s out r.0 r.1)
+  check_one : OneAnswer (Checked × List ℕ) (λ r. Checks s out r.0 r.1)
   unfolding Checks sound_tests
-  check-one =
+  check_one =
       let ts = check_tests s out in
       let told = verdict_told (ruling (number_of s)) in
       let left = left_by (first_of ts) (bytes_of_string (mended (number_of s))) out in
       let so : (r : Checked) → checked_paper r ≡ answer_of ts told → OneAnswer (Checked × List ℕ) (λ r. Checks s out r.0 r.1) =
       λ r e. one (Checked × List ℕ) (λ r. Checks s out r.0 r.1) (λ r q a b. pair (check_once s out r.0 q.0 r.1 q.1 a b)) (r, left) (record { answer = e; output = refl })
       in
-      ⊎_elim (λ (z : first_of ts ≡ 0). let v = verdict-there z in so v.0 (v.1 ∙ taken_says ts told z)) (λ (f : Fitting ts). so (Refused f.refusal) (f.says told))
+      ⊎_elim (λ (z : first_of ts ≡ 0). let v = verdict_there z in so v.0 (v.1 ∙ taken_says ts told z)) (λ (f : Fitting ts). so (Refused f.refusal) (f.says told))
       (settles ts tt)
 
-  reading-one : OneAnswer (Decoded × List ℕ) (λ r. ReadsRelative s out r.0 r.1)
+  reading_one : OneAnswer (Decoded × List ℕ) (λ r. ReadsRelative s out r.0 r.1)
   unfolding ReadsRelative
-  reading-one =
+  reading_one =
       let ts = reading_tests s out in
       let left = left_by (first_of ts) (bytes_of_string (read_relative (number_of s))) out in
       let told = first_symbol (number_of s) ∷ [] in
       let so : (r : Decoded) → _ → OneAnswer (Decoded × List ℕ) (λ r. ReadsRelative s out r.0 r.1) =
-      λ r e. one (Decoded × List ℕ) (λ r. ReadsRelative s out r.0 r.1) (λ r q a b. pair (reads-once s out r.0 r.1 q.0 q.1 a b)) (r, left) (record { answer = e; output = refl })
+      λ r e. one (Decoded × List ℕ) (λ r. ReadsRelative s out r.0 r.1) (λ r q a b. pair (reads_once s out r.0 r.1 q.0 q.1 a b)) (r, left) (record { answer = e; output = refl })
       in
       ⊎_elim
       (λ (z : first_of ts ≡ 0). so (Decode (polarity_of (number_of s))) (ap (λ (b : ℕ). 0 ∷ b ∷ []) (polarity_told (number_of s)) ∙ taken_says ts told z))
       (λ (f : Fitting ts). so (NotDecoded f.refusal) (f.says told)) (settles ts tt)
 
-  sending-one : OneAnswer (Written × List ℕ) (λ r. WritesRelative s out r.0 r.1)
+  sending_one : OneAnswer (Written × List ℕ) (λ r. WritesRelative s out r.0 r.1)
   unfolding WritesRelative
-  sending-one =
+  sending_one =
       let ts = writing_tests s out in
       let left = left_by (first_of ts) (bytes_of_string (write_relative (number_of s))) out in
       let so : (r : Written) → _ → OneAnswer (Written × List ℕ) (λ r. WritesRelative s out r.0 r.1) =
-      λ r e. one (Written × List ℕ) (λ r. WritesRelative s out r.0 r.1) (λ r q a b. pair (writes-once s out r.0 r.1 q.0 q.1 a b)) (r, left) (record { answer = e; output = refl })
+      λ r e. one (Written × List ℕ) (λ r. WritesRelative s out r.0 r.1) (λ r q a b. pair (writes_once s out r.0 r.1 q.0 q.1 a b)) (r, left) (record { answer = e; output = refl })
       in
       ⊎_elim (λ (z : first_of ts ≡ 0). so Done (taken_says ts [] z)) (λ (f : Fitting ts). so (NotWritten f.refusal) (f.says []))
       (settles ts tt)
@@ -212,13 +212,13 @@ read_one s k =
     let zs = values_of n (layout k) in
     ⊎_elim
     (λ (z : first_of ts ≡ 0).
-    one Reading (Reads s k) (read-once s k) (Read (number_in n) (record_of k zs))
+    one Reading (Reads s k) (read_once s k) (Read (number_in n) (record_of k zs))
     (record {
       answer = ap (λ (q : Kind). 0 ∷ number_in n ∷ kind_number q ∷ []) (record_kind k zs) ∙ taken_says ts (number_in n ∷ kind_number k ∷ []) z;
       words = rw z (record_values k n);
     }))
     (λ (f : Fitting ts).
-    one Reading (Reads s k) (read-once s k) (NotRead f.refusal) (record { answer = f.says (number_in n ∷ kind_number k ∷ []); words = rw (ne_eqb (first_of ts) 0 (λ e. omega (arith, f.first, e))) }))
+    one Reading (Reads s k) (read_once s k) (NotRead f.refusal) (record { answer = f.says (number_in n ∷ kind_number k ∷ []); words = rw (ne_eqb (first_of ts) 0 (λ e. omega (arith, f.first, e))) }))
     (settles_then (string_tests s ++ (test 5 (eqb (number_in n) 0) ∷ test 11 (not (of_kind k (number_in n))) ∷ [])) (range_test zs k ∷ []) tt (range_settles zs k))
 
 write_one : (m : ℕ) (w : Record) (out : List ℕ) → OneAnswer (Written × List ℕ) (λ r. Writes m w out r.0 r.1)
@@ -227,23 +227,23 @@ write_one m w out =
     let ts = write_tests m w out in
     let left = left_by (first_of ts) (bytes_of_string (string_of m w)) out in
     let so : (r : Written) → _ → OneAnswer (Written × List ℕ) (λ r. Writes m w out r.0 r.1) =
-    λ r e. one (Written × List ℕ) (λ r. Writes m w out r.0 r.1) (λ r q a b. pair (write-once m w out r.0 q.0 r.1 q.1 a b)) (r, left) (record { answer = e; output = refl })
+    λ r e. one (Written × List ℕ) (λ r. Writes m w out r.0 r.1) (λ r q a b. pair (write_once m w out r.0 q.0 r.1 q.1 a b)) (r, left) (record { answer = e; output = refl })
     in
     ⊎_elim (λ (z : first_of ts ≡ 0). so Done (taken_says ts [] z)) (λ (f : Fitting ts). so (NotWritten f.refusal) (f.says []))
     (settles_then (test 12 (no_room out) ∷ test 11 (not (of_kind (kind_of w) m)) ∷ []) (range_test (list_of w) (kind_of w) ∷ []) tt (range_settles (list_of w) (kind_of w)))
 
 -- EVERY CALL ANSWERS, of any bytes and any record
 pub strings_answer : StringsAnswer
-strings_answer = record { check = check-one; from_relative = reading-one; to_relative = sending-one; read = read_one; write = write_one }
+strings_answer = record { check = check_one; from_relative = reading_one; to_relative = sending_one; read = read_one; write = write_one }
 
 pub string_numbers : StringNumbers
 string_numbers =
     record {
       check = check_numbers;
-      from_relative = reads-exactly;
-      to_relative = writes-exactly;
+      from_relative = reads_exactly;
+      to_relative = writes_exactly;
       read = read_numbers;
-      write = write-numbers;
+      write = write_numbers;
     }
 
 -- NO OUTPUT BYTE

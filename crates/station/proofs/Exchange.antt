@@ -18,7 +18,7 @@ use Rattle.station.specs.Said.{Said, said, RunsFrom, none, offers, resets, calls
 use Rattle.station.specs.Demand3.{Exchanged, SameCalls, Reordered}
 use Rattle.station.proofs.ChannelRuns.{on_both}
 use Rattle.station.proofs.EveryHistory.{some_answer, offer_answers, reset_answer, reset_answers, every_history}
-use Rattle.station.proofs.Reorder.{offer_said, reset_said, said_same, same-later, not-x, not-y, reorder}
+use Rattle.station.proofs.Reorder.{offer_said, reset_said, said_same, same_later, not_x, not_y, reorder}
 
 -- ---- a run with its answers is a run of its calls
 pub runs_of : (all : List Said) (st : Station) → RunsFrom fresh_station all st → Runs (calls_of all) st
@@ -90,21 +90,21 @@ calls_joined [] before = refl
 calls_joined (z ∷ later) before = ap (λ (l : List Call). z.call ∷ l) (calls_joined later before)
 
 module _ (x y : Said) (differ : channel_of x.call ≡ channel_of y.call → ⊥) where
-  same-on : (later before : List Said) (c : ℕ) → calls_on c (calls_of (later ++ (x ∷ y ∷ before))) ≡ calls_on c (calls_of (later ++ (y ∷ x ∷ before)))
-  same-on later before c =
-      ap (calls_on c) (calls_joined later (x ∷ y ∷ before)) ∙ same-later x.call y.call differ (calls_of later) (calls_of before) c
+  same_on : (later before : List Said) (c : ℕ) → calls_on c (calls_of (later ++ (x ∷ y ∷ before))) ≡ calls_on c (calls_of (later ++ (y ∷ x ∷ before)))
+  same_on later before c =
+      ap (calls_on c) (calls_joined later (x ∷ y ∷ before)) ∙ same_later x.call y.call differ (calls_of later) (calls_of before) c
       ∙ sym (ap (calls_on c) (calls_joined later (y ∷ x ∷ before)))
 
   -- each call keeps its answer
-  told-still : (later before : List Said) → AllTold (later ++ (x ∷ y ∷ before)) → AllTold (later ++ (y ∷ x ∷ before))
-  told-still [] before t =
+  told_still : (later before : List Said) → AllTold (later ++ (x ∷ y ∷ before)) → AllTold (later ++ (y ∷ x ∷ before))
+  told_still [] before t =
       let cs = calls_of before in (
-        t.1.0 ∙ said_same cs (x.call ∷ cs) y.call (sym (not-x x.call y.call differ cs)),
-        (t.0 ∙ said_same (y.call ∷ cs) cs x.call (not-y x.call y.call differ cs), t.1.1),
+        t.1.0 ∙ said_same cs (x.call ∷ cs) y.call (sym (not_x x.call y.call differ cs)),
+        (t.0 ∙ said_same (y.call ∷ cs) cs x.call (not_y x.call y.call differ cs), t.1.1),
       )
-  told-still (z ∷ later) before t = (
-    t.0 ∙ said_same (calls_of (later ++ (x ∷ y ∷ before))) (calls_of (later ++ (y ∷ x ∷ before))) z.call (same-on later before (channel_of z.call)),
-    told-still later before t.1,
+  told_still (z ∷ later) before t = (
+    t.0 ∙ said_same (calls_of (later ++ (x ∷ y ∷ before))) (calls_of (later ++ (y ∷ x ∷ before))) z.call (same_on later before (channel_of z.call)),
+    told_still later before t.1,
   )
 
   -- "EACH CALL'S ANSWER AND THE WHOLE STATION AFTERWARDS ARE UNCHANGED"
@@ -112,9 +112,9 @@ module _ (x y : Said) (differ : channel_of x.call ≡ channel_of y.call → ⊥)
   exchanged later earlier st run =
       let all = later ++ (x ∷ y ∷ earlier) in
       let turned = later ++ (y ∷ x ∷ earlier) in
-      let told : turned ≡ all_said (calls_of turned) = said_is turned (told-still later earlier (all_told all st run)) in
+      let told : turned ≡ all_said (calls_of turned) = said_is turned (told_still later earlier (all_told all st run)) in
       let same : (cs : List Call) (st' : Station) → cs ≡ calls_of turned → Runs cs st' → st ≡ st' =
-      λ cs st' q r. reorder (calls_of all) (calls_of turned) st st' (runs_of all st run) (subst (λ (l : List Call). Runs l st') q r) (λ card c e. same-on later earlier c)
+      λ cs st' q r. reorder (calls_of all) (calls_of turned) st st' (runs_of all st run) (subst (λ (l : List Call). Runs l st') q r) (λ card c e. same_on later earlier c)
       in
       record {
         unchanged = subst (λ (l : List Said). RunsFrom fresh_station l st) (sym told)

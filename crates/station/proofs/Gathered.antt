@@ -12,7 +12,7 @@ use Rattle.strings.specs.Pick.{pick}
 use Rattle.strings.specs.Number.{number_of}
 use Rattle.strings.specs.Hamming.{Encoded, mended}
 use Rattle.strings.proofs.Encode.{encode_encoded, encode_stays, encode_lt, encoded_once}
-use Rattle.strings.proofs.CheckRule.{encoded-clean, idle-refused, bit-8-damaged, one-flip-repaired, one_flip_idle, two-flips-damaged, checked_again}
+use Rattle.strings.proofs.CheckRule.{encoded_clean, idle_refused, bit_8_damaged, one_flip_repaired, one_flip_idle, two_flips_damaged, checked_again}
 use Rattle.relative.proofs.RelativeCode.{written_then_read as sent-then-read, polarity_means, inverse_reads_alike}
 use Rattle.records.specs.declared.kinds.Kind.{Kind}
 use Rattle.records.specs.declared.kinds.Kind.TheVariants.{One, Two, Three, Four, Five, Even, Odd, Fourteen}
@@ -21,11 +21,11 @@ use Rattle.layout.specs.Layout.{layout}
 use Rattle.words.specs.Values.{values_of, first_bad}
 use Rattle.words.specs.Tidied.{tidied}
 use Rattle.layout.proofs.Rows.{layout_long}
-use Rattle.words.proofs.Trip.{kind-values-long}
+use Rattle.words.proofs.Trip.{kind_values_long}
 use Rattle.words.proofs.Names.{read_named, written_named}
 use Rattle.words.proofs.RoundTrips.{written_then_read, written_clean, read_then_written, tidied_is, tidied_only}
 use Rattle.words.specs.Ranges.{FirstOut, readable, may_fail}
-use Rattle.words.proofs.Ranges.{none-bad-is, reading_fails, read-range, write_range}
+use Rattle.words.proofs.Ranges.{none_bad_is, reading_fails, read_range, write_range}
 use Rattle.station.specs.Strings.{Checking, CheckedAgain, Encoding, Relative}
 use Rattle.station.specs.Words.{ByName, RoundTrips, FirstFails, legal, Ranges}
 
@@ -33,11 +33,11 @@ use Rattle.station.specs.Words.{ByName, RoundTrips, FirstFails, legal, Ranges}
 pub checking : (n : ℕ) → n < 2 ^ 85 → Encoded n → (out : List ℕ) → length out ≡ 11 → Checking n out
 checking n h v out room =
     record {
-      clean = λ b r out'. encoded-clean n h v out room r out' b;
-      one_flip = λ i l u ne b r out'. one-flip-repaired n h v out room r out' i l u ne b;
-      bit_8 = λ r out'. bit-8-damaged n h v out room r out';
-      two_flips = λ i j l u k w ne r out'. two-flips-damaged n h v out room r out' i l u j k w ne;
-      idle = λ b r out'. idle-refused n h v out room r out' b;
+      clean = λ b r out'. encoded_clean n h v out room r out' b;
+      one_flip = λ i l u ne b r out'. one_flip_repaired n h v out room r out' i l u ne b;
+      bit_8 = λ r out'. bit_8_damaged n h v out room r out';
+      two_flips = λ i j l u k w ne r out'. two_flips_damaged n h v out room r out' i l u j k w ne;
+      idle = λ b r out'. idle_refused n h v out room r out' b;
       one_flip_idle = λ i l u ne b r out'. one_flip_idle n h v out room r out' i l u ne b;
     }
 
@@ -96,10 +96,10 @@ none_fails k n = by k (reading_fails n k)
 pub ranges : Ranges
 ranges =
     record {
-      reader = λ s k p a. first_fails k (values_of (mended (number_of s)) (layout k)) p (read-range s k p a);
+      reader = λ s k p a. first_fails k (values_of (mended (number_of s)) (layout k)) p (read_range s k p a);
       encoder = λ m w out out' p a. first_fails (kind_of w) (list_of w) p (write_range m w out out' p a);
       only_these = λ n k.
           let zs = values_of n (layout k) in
-          let i = none-bad-is k zs (kind-values-long k n) in
+          let i = none_bad_is k zs (kind_values_long k n) in
           ((λ f. (none_fails k n).0 (i.1 f)), (λ t. i.0 ((none_fails k n).1 t)));
     }

@@ -42,16 +42,16 @@ module _ (P : Three → Type 0) (x e : Entry) (dated : Dated e) (h : Holding P x
   more u = P u ⊎ (u ≡ meaning e)
 
   -- it is the new one
-  new-one : is_below (meaning x) (meaning e) ≡ true → Holding more e
-  new-one b = record { above = λ u. ⊎_elim (λ (p : P u). by u p (is_below (meaning e) u) refl) (λ (q : u ≡ meaning e). ap (is_below (meaning e)) q ∙ below_irrefl (meaning e)); one = inl (inr refl, dated) }
+  new_one : is_below (meaning x) (meaning e) ≡ true → Holding more e
+  new_one b = record { above = λ u. ⊎_elim (λ (p : P u). by u p (is_below (meaning e) u) refl) (λ (q : u ≡ meaning e). ap (is_below (meaning e)) q ∙ below_irrefl (meaning e)); one = inl (inr refl, dated) }
     where
       by : (u : Three) → P u → (t : Bool) → is_below (meaning e) u ≡ t → t ≡ false
       by u p true q = absurd (true≢false (sym (below_trans (meaning x) (meaning e) u b q) ∙ h.above u p))
       by u p false q = refl
 
   -- the old one stays
-  old-one : is_below (meaning x) (meaning e) ≡ false → Holding more x
-  old-one b =
+  old_one : is_below (meaning x) (meaning e) ≡ false → Holding more x
+  old_one b =
       record {
         above = λ u. ⊎_elim (λ (p : P u). h.above u p) (λ (q : u ≡ meaning e). ap (is_below (meaning x)) q ∙ b);
         one = ⊎_elim (λ (w : P (meaning x) × Dated x). inl (inl w.0, w.1))
@@ -59,13 +59,13 @@ module _ (P : Three → Type 0) (x e : Entry) (dated : Dated e) (h : Holding P x
             absurd (true≢false (sym (blank_below e dated.0) ∙ ap (λ (y : Entry). is_below (meaning y) (meaning e)) (sym w.0) ∙ b))) h.one;
       }
 
-  pub holding-more : Holding more (greater x e)
+  pub holding_more : Holding more (greater x e)
   unfolding greater
-  holding-more = by (is_below (meaning x) (meaning e)) refl
+  holding_more = by (is_below (meaning x) (meaning e)) refl
     where
       by : (t : Bool) → is_below (meaning x) (meaning e) ≡ t → Holding more (pick t e x)
-      by true b = new-one b
-      by false b = old-one b
+      by true b = new_one b
+      by false b = old_one b
 
 -- ---- all that is shown, brought to a book
 -- an entry is shown for slot k among these
@@ -90,10 +90,10 @@ brought_full (s ∷ ss) b f = brought_full ss (joined_shown b s) (shown_full b s
 
 module _ (k : ℕ) (least : 1 ≤ k) (most : k ≤ slots) where
   -- the first of them, for this slot or another
-  holding-first : (P : Three → Type 0) (j : ℕ) (e : Entry) (ss : List Shown) (b : Book) → Right (At j e) → Full b → Holding P (in_slot b k)
+  holding_first : (P : Three → Type 0) (j : ℕ) (e : Entry) (ss : List Shown) (b : Book) → Right (At j e) → Full b → Holding P (in_slot b k)
       → ((Q : Three → Type 0) → Holding Q (in_slot (joined_shown b (At j e)) k) → Holding (λ u. Q u ⊎ InShows k u ss) (in_slot (brought (joined_shown b (At j e)) ss) k))
       → (t : Bool) → eqb j k ≡ t → Holding (λ u. P u ⊎ InShows k u (At j e ∷ ss)) (in_slot (brought (joined_shown b (At j e)) ss) k)
-  holding-first P j e ss b r f h ih true q =
+  holding_first P j e ss b r f h ih true q =
       let w : j ≡ k = eqb-true j k q in
       let slot : in_slot (joined_shown b (At j e)) k ≡ greater (in_slot b k) e =
       subst (λ (i : ℕ). in_slot (joined_shown b (At i e)) k ≡ greater (in_slot b k) e) (sym w) (shown_slot b k e f least most)
@@ -102,8 +102,8 @@ module _ (k : ℕ) (least : 1 ≤ k) (most : k ≤ slots) where
       holding_same (λ u. Q u ⊎ InShows k u ss) (λ u. P u ⊎ InShows k u (At j e ∷ ss)) (in_slot (brought (joined_shown b (At j e)) ss) k)
       (λ u. ⊎_elim (⊎_elim inl (λ (m : u ≡ meaning e). inr (inl (w, m)))) (λ (i : InShows k u ss). inr (inr i)))
       (λ u. ⊎_elim (λ (p : P u). inl (inl p)) (⊎_elim (λ (m : (j ≡ k) × (u ≡ meaning e)). inl (inr m.1)) inr))
-      (ih Q (subst (Holding Q) (sym slot) (holding-more P (in_slot b k) e r.1.1 h)))
-  holding-first P j e ss b r f h ih false q =
+      (ih Q (subst (Holding Q) (sym slot) (holding_more P (in_slot b k) e r.1.1 h)))
+  holding_first P j e ss b r f h ih false q =
       let n : j ≡ k → ⊥ = eqb-false j k q in
       holding_same (λ u. P u ⊎ InShows k u ss) (λ u. P u ⊎ InShows k u (At j e ∷ ss)) (in_slot (brought (joined_shown b (At j e)) ss) k)
       (λ u. ⊎_elim inl (λ (i : InShows k u ss). inr (inr i)))
@@ -111,14 +111,14 @@ module _ (k : ℕ) (least : 1 ≤ k) (most : k ≤ slots) where
       (ih P (subst (Holding P) (sym (shown_other b j e k r.0 least (λ w. n (sym w)))) h))
 
   -- THE SLOT HOLDS THE GREATEST OF WHAT WAS THERE AND WHAT IS BROUGHT
-  pub holding-brought : (ss : List Shown) (P : Three → Type 0) (b : Book) → AllRight ss → Full b → Holding P (in_slot b k)
+  pub holding_brought : (ss : List Shown) (P : Three → Type 0) (b : Book) → AllRight ss → Full b → Holding P (in_slot b k)
       → Holding (λ u. P u ⊎ InShows k u ss) (in_slot (brought b ss) k)
   unfolding brought
-  holding-brought [] P b r f h = holding_same P (λ u. P u ⊎ ⊥) (in_slot b k) (λ u. inl) (λ u. ⊎_elim (λ (p : P u). p) (λ z. absurd z)) h
-  holding-brought (Nothing ∷ ss) P b r f h =
-      subst (λ (x : Book). Holding (λ u. P u ⊎ InShows k u ss) (in_slot (brought x ss) k)) (sym (shown_nothing b)) (holding-brought ss P b r.1 f h)
-  holding-brought (At j e ∷ ss) P b r f h =
-      holding-first P j e ss b r.0 f h (λ Q g. holding-brought ss Q (joined_shown b (At j e)) r.1 (shown_full b (At j e) f) g) (eqb j k) refl
+  holding_brought [] P b r f h = holding_same P (λ u. P u ⊎ ⊥) (in_slot b k) (λ u. inl) (λ u. ⊎_elim (λ (p : P u). p) (λ z. absurd z)) h
+  holding_brought (Nothing ∷ ss) P b r f h =
+      subst (λ (x : Book). Holding (λ u. P u ⊎ InShows k u ss) (in_slot (brought x ss) k)) (sym (shown_nothing b)) (holding_brought ss P b r.1 f h)
+  holding_brought (At j e ∷ ss) P b r f h =
+      holding_first P j e ss b r.0 f h (λ Q g. holding_brought ss Q (joined_shown b (At j e)) r.1 (shown_full b (At j e) f) g) (eqb j k) refl
 
 -- ---- two slots that hold the greatest of the same entries are the same
 pub held_once : (P Q : Three → Type 0) (x y : Entry) → ((u : Three) → P u → Q u) → ((u : Three) → Q u → P u) → Holding P x → Holding Q y → x ≡ y

@@ -29,8 +29,8 @@ use Rattle.station.specs.Demand1.{WellMade}
 use Rattle.station.specs.History.{Call, Offer, Reset, card_of}
 use Rattle.station.specs.Said.{Said, said, RunsFrom, none, offers, resets, calls_of}
 use Rattle.station.specs.Isolation.{AgreeFor, OthersLeave, AnsweredAlike, is_by, said_by, Isolated, EveryIsolated}
-use Rattle.station.proofs.Served.{shut-says, shut_not_zero, served_below, owner_is}
-use Rattle.station.proofs.ChannelRuns.{after-own, after-apart, reset-own, reset-apart}
+use Rattle.station.proofs.Served.{shut_says_lem, shut_not_zero, served_below, owner_is}
+use Rattle.station.proofs.ChannelRuns.{after_own, after_apart, reset_own, reset_apart}
 use Rattle.station.proofs.EveryHistory.{some_answer, offer_answers, reset_answer, reset_answers}
 use Rattle.station.proofs.QueriesOnce.{tallies_same}
 use Rattle.station.proofs.WellMade.{offer_made, reset_made}
@@ -44,8 +44,8 @@ module _ (card : ℕ) (st : Station) where
   pub others_leave : OthersLeave card st
   others_leave =
       record {
-        offers = λ other c epoch s r n o k h w. ap (λ (x : Station). row_at x k) o.station ∙ after-apart st other c k (apart other c n k w) epoch s;
-        resets = λ other c r n o k h w. ap (λ (x : Station). row_at x k) o.station ∙ reset-apart st other c k (apart other c n k w);
+        offers = λ other c epoch s r n o k h w. ap (λ (x : Station). row_at x k) o.station ∙ after_apart st other c k (apart other c n k w) epoch s;
+        resets = λ other c r n o k h w. ap (λ (x : Station). row_at x k) o.station ∙ reset_apart st other c k (apart other c n k w);
       }
 
 -- ---- a card's own
@@ -59,18 +59,18 @@ module _ (card : ℕ) (st st' : Station) (agree : AgreeFor card st st') where
           → answer_of (gate_tests card c ++ tests (row_at st c)) (told (row_at st c)) ≡ answer_of (gate_tests card c ++ tests (row_at st' c)) (told (row_at st' c))
       by true e =
           ap (λ (x : Row). answer_of (gate_tests card c ++ tests x) (told x)) (agree c (served_below card c e) (owner_is card c e))
-      by false e = shut-says card c (tests (row_at st c)) (told (row_at st c)) e ∙ sym (shut-says card c (tests (row_at st' c)) (told (row_at st' c)) e)
+      by false e = shut_says_lem card c (tests (row_at st c)) (told (row_at st c)) e ∙ sym (shut_says_lem card c (tests (row_at st' c)) (told (row_at st' c)) e)
 
   -- a call that is not let in finds no record
-  shut-finds : (x : Station) (c : ℕ) (w : ImmediateWords) (start : ℕ) → FindsRecord x card c (FoundRecord w start) → is_served card c ≡ false → ⊥
-  shut-finds x c w start a q = shut_not_zero card c q (a.answer ∙ shut-says card c (test 13 (not (has_record (row_at x c).immediate)) ∷ []) [] q)
+  shut_finds : (x : Station) (c : ℕ) (w : ImmediateWords) (start : ℕ) → FindsRecord x card c (FoundRecord w start) → is_served card c ≡ false → ⊥
+  shut_finds x c w start a q = shut_not_zero card c q (a.answer ∙ shut_says_lem card c (test 13 (not (has_record (row_at x c).immediate)) ∷ []) [] q)
 
-  said-alike : (c epoch : ℕ) (s : List ℕ)
+  said_alike : (c epoch : ℕ) (s : List ℕ)
       → answer_of (station_tests st card c epoch s) (told_in st c epoch s) ≡ answer_of (station_tests st' card c epoch s) (told_in st' c epoch s)
-  said-alike c epoch s = by_row c (λ x. offer_tests (frame_of x) epoch s) (λ x. told_to (frame_of x) epoch s)
+  said_alike c epoch s = by_row c (λ x. offer_tests (frame_of x) epoch s) (λ x. told_to (frame_of x) epoch s)
 
-  records-alike : (c : ℕ) (r r' : RecordFound) → FindsRecord st card c r → FindsRecord st' card c r' → r ≡ r'
-  records-alike c r r' a b = by r r' (a.answer ∙ by_row c (λ x. test 13 (not (has_record x.immediate)) ∷ []) (λ x. []) ∙ sym b.answer) a b
+  records_alike : (c : ℕ) (r r' : RecordFound) → FindsRecord st card c r → FindsRecord st' card c r' → r ≡ r'
+  records_alike c r r' a b = by r r' (a.answer ∙ by_row c (λ x. test 13 (not (has_record x.immediate)) ∷ []) (λ x. []) ∙ sym b.answer) a b
     where
       by : (r r' : RecordFound) → record_paper r ≡ record_paper r' → FindsRecord st card c r → FindsRecord st' card c r' → r ≡ r'
       by (FoundRecord w s) (FoundRecord v t) e a b = found (is_served card c) refl
@@ -81,7 +81,7 @@ module _ (card : ℕ) (st st' : Station) (agree : AgreeFor card st st') where
               let x = a.words w s refl in
               let y = b.words v t refl in
               ap₂ FoundRecord (x.0 ∙ ap (λ (z : Row). immediate_of z.immediate.strings) same ∙ sym y.0) (x.1 ∙ ap (λ (z : Row). z.immediate.start) same ∙ sym y.1)
-          found false q = absurd (shut-finds st c w s a q)
+          found false q = absurd (shut_finds st c w s a q)
       by (FoundRecord w s) (NoRecord q) e a b = absurd (not_taken q [] (sym e))
       by (NoRecord p) (FoundRecord v s) e a b = absurd (not_taken p [] e)
       by (NoRecord p) (NoRecord q) e a b = ap NoRecord (refusal_same p q e)
@@ -92,7 +92,7 @@ module _ (card : ℕ) (st st' : Station) (agree : AgreeFor card st st') where
     agree_after c epoch s k h w = by (eqb k c) refl (is_served card c) refl
       where
         still : (is_served card c ≡ true → k ≡ c → ⊥) → row_at (station_after st card c epoch s) k ≡ row_at (station_after st' card c epoch s) k
-        still n = after-apart st card c k n epoch s ∙ agree k h w ∙ sym (after-apart st' card c k n epoch s)
+        still n = after_apart st card c k n epoch s ∙ agree k h w ∙ sym (after_apart st' card c k n epoch s)
 
         by : (t : Bool) → eqb k c ≡ t → (u : Bool) → is_served card c ≡ u → row_at (station_after st card c epoch s) k ≡ row_at (station_after st' card c epoch s) k
         by false q u e = still (λ f p. eqb-false k c q p)
@@ -100,14 +100,14 @@ module _ (card : ℕ) (st st' : Station) (agree : AgreeFor card st st') where
         by true q true e =
             let p = eqb-true k c q in
             subst (λ (j : ℕ). row_at (station_after st card c epoch s) j ≡ row_at (station_after st' card c epoch s) j) (sym p)
-            (after-own st card c long e epoch s
-            ∙ ap (λ (x : Row). offered_row x epoch s) (agree c (served_below card c e) (owner_is card c e)) ∙ sym (after-own st' card c long' e epoch s))
+            (after_own st card c long e epoch s
+            ∙ ap (λ (x : Row). offered_row x epoch s) (agree c (served_below card c e) (owner_is card c e)) ∙ sym (after_own st' card c long' e epoch s))
 
     agree-reset : (c : ℕ) → AgreeFor card (station_reset st card c) (station_reset st' card c)
     agree-reset c k h w = by (eqb k c) refl (is_served card c) refl
       where
         still : (is_served card c ≡ true → k ≡ c → ⊥) → row_at (station_reset st card c) k ≡ row_at (station_reset st' card c) k
-        still n = reset-apart st card c k n ∙ agree k h w ∙ sym (reset-apart st' card c k n)
+        still n = reset_apart st card c k n ∙ agree k h w ∙ sym (reset_apart st' card c k n)
 
         by : (t : Bool) → eqb k c ≡ t → (u : Bool) → is_served card c ≡ u → row_at (station_reset st card c) k ≡ row_at (station_reset st' card c) k
         by false q u e = still (λ f p. eqb-false k c q p)
@@ -115,7 +115,7 @@ module _ (card : ℕ) (st st' : Station) (agree : AgreeFor card st st') where
         by true q true e =
             let p = eqb-true k c q in
             subst (λ (j : ℕ). row_at (station_reset st card c) j ≡ row_at (station_reset st' card c) j) (sym p)
-            (reset-own st card c long e ∙ sym (reset-own st' card c long' e))
+            (reset_own st card c long e ∙ sym (reset_own st' card c long' e))
 
     -- A CARD'S OWN CALLS ARE ANSWERED BY ITS OWN ROWS
     pub answered_alike : AnsweredAlike card st st'
@@ -123,7 +123,7 @@ module _ (card : ℕ) (st st' : Station) (agree : AgreeFor card st st') where
     answered_alike =
         record {
           offers = λ c epoch s r r' o p. (
-            answer_same r.answer r'.answer (o.answer ∙ said-alike c epoch s ∙ sym p.answer),
+            answer_same r.answer r'.answer (o.answer ∙ said_alike c epoch s ∙ sym p.answer),
             subst (λ (x : Station). AgreeFor card x r'.station) (sym o.station)
                 (subst (AgreeFor card (station_after st card c epoch s)) (sym p.station) (agree_after c epoch s)),
           );
@@ -132,7 +132,7 @@ module _ (card : ℕ) (st st' : Station) (agree : AgreeFor card st st') where
             subst (λ (x : Station). AgreeFor card x r'.station) (sym o.station)
                 (subst (AgreeFor card (station_reset st card c)) (sym p.station) (agree-reset c)),
           );
-          records = records-alike;
+          records = records_alike;
           tallies = λ c r r' a b. tallies_same r r' (a ∙ by_row c (λ x. []) (λ x. all_counts x.tallies) ∙ sym b);
         }
 
@@ -186,14 +186,14 @@ unfolding left_by told_by
 own_call card st st' w w' agree (Offer asker c epoch s) q =
     subst
     (λ (k : ℕ). (answer_of (station_tests st k c epoch s) (told_in st c epoch s) ≡ answer_of (station_tests st' k c epoch s) (told_in st' c epoch s)) × AgreeFor card (station_after st k c epoch s) (station_after st' k c epoch s))
-    (sym q) (said-alike card st st' agree c epoch s, agree_after card st st' agree w.rows w'.rows c epoch s)
+    (sym q) (said_alike card st st' agree c epoch s, agree_after card st st' agree w.rows w'.rows c epoch s)
 own_call card st st' w w' agree (Reset asker c) q =
     (refl, subst (λ (k : ℕ). AgreeFor card (station_reset st k c) (station_reset st' k c)) (sym q) (agree-reset card st st' agree w.rows w'.rows c))
 
 other_call : (card : ℕ) (st : Station) (call : Call) → (card_of call ≡ card → ⊥) → AgreeFor card (left_by st call) st
 unfolding left_by
-other_call card st (Offer asker c epoch s) n k h w = after-apart st asker c k (apart card st asker c n k w) epoch s
-other_call card st (Reset asker c) n k h w = reset-apart st asker c k (apart card st asker c n k w)
+other_call card st (Offer asker c epoch s) n k h w = after_apart st asker c k (apart card st asker c n k w) epoch s
+other_call card st (Reset asker c) n k h w = reset_apart st asker c k (apart card st asker c n k w)
 
 -- ---- a card's own calls among others
 calls_by : ℕ → List Call → List Call

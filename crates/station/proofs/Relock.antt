@@ -19,7 +19,7 @@ use Rattle.channel.specs.Frame.{Frame}
 use Rattle.channel.specs.Row.{frame_of}
 use Rattle.channel.specs.Offers.{answer_paper, is_taken, offer_tests, offered_row}
 use Rattle.channel.specs.Relock.{Heard, number_heard, TakenAt, after_heard, heard_after, GoodString, OfStart, CameBefore, Once, NothingElse, GoodTaken, FirstOf15}
-use Rattle.channel.proofs.HeldFrame.{frame-after}
+use Rattle.channel.proofs.HeldFrame.{frame_after_lem}
 use Rattle.channel.proofs.Relock.{relock_row}
 use Rattle.station.specs.declared.Station.{Station}
 use Rattle.station.specs.declared.Stepped.{Stepped}
@@ -30,7 +30,7 @@ use Rattle.station.specs.Said.{Said, said, RunsFrom, none, offers, resets, Among
 use Rattle.station.specs.Demand1.{WellMade}
 use Rattle.station.specs.Relock.{offer_to, SaysTaken, GoodOf, Steady, Relocked}
 use Rattle.station.proofs.Served.{served_below, owner_is}
-use Rattle.station.proofs.ChannelRuns.{after-own, after-apart, reset-apart, own_answer, row_offers}
+use Rattle.station.proofs.ChannelRuns.{after_own, after_apart, reset_apart, own_answer, row_offers}
 use Rattle.station.proofs.WellMade.{offer_made, reset_made}
 
 -- ---- an answer begins with the number that says no, or with 0
@@ -137,8 +137,8 @@ module _ (st : Station) (card c f : ℕ) (served : is_served card c ≡ true) wh
     one_more_lem w =
         record {
           made = offer_made old card c h.epoch h.bytes r i.made o;
-          held = ap (λ (x : Station). held_at x c) o.station ∙ ap frame_of (after-own old card c i.made.rows served h.epoch h.bytes)
-              ∙ frame-after (row_at old c) h.epoch h.bytes (i.made.strings c (served_below card c served)) ∙ ap (λ (x : Frame). after_heard x h) i.held;
+          held = ap (λ (x : Station). held_at x c) o.station ∙ ap frame_of (after_own old card c i.made.rows served h.epoch h.bytes)
+              ∙ frame_after_lem (row_at old c) h.epoch h.bytes (i.made.strings c (served_below card c served)) ∙ ap (λ (x : Frame). after_heard x h) i.held;
           nothing = ((λ t. w.nothing_else h answer (inl refl) (says t)), i.nothing);
           once = (
             (λ g s b. let v = came card c f (number_heard h) before b in w.once [] before h v.string answer v.answer refl v.there (g, s) v.good v.number),
@@ -163,7 +163,7 @@ module _ (st : Station) (card c f : ℕ) (served : is_served card c ≡ true) wh
           one_more_lem h before old r (subst (λ (j : ℕ). OffersTo old card j epoch s r) e (subst (λ (j : ℕ). OffersTo old j k epoch s r) d o)) i
           (subst (λ (x : Call). Steady card c f (said x (answer_paper r.answer) ∷ before)) (ap₂ (λ (j l : ℕ). Offer j l epoch s) d e) w)
       by i false q =
-          quiet (heard_on card c before) old r.station (offer_made old asker k epoch s r i.made o) (ap (λ (x : Station). row_at x c) o.station ∙ after-apart old asker k c (another asker k q) epoch s) i
+          quiet (heard_on card c before) old r.station (offer_made old asker k epoch s r i.made o) (ap (λ (x : Station). row_at x c) o.station ∙ after_apart old asker k c (another asker k q) epoch s) i
   since made all st' (resets asker k before old r run o) w =
       let i = since made before old run (steady_before card c f (said (Reset asker k) (written_paper r.answer)) before w) in
       let n : is_served asker k ≡ true → c ≡ k → ⊥ =
@@ -171,7 +171,7 @@ module _ (st : Station) (card c f : ℕ) (served : is_served card c ≡ true) wh
       w.no_reset (written_paper r.answer)
       (inl (ap₂ (λ (j l : ℕ). said (Reset j l) (written_paper r.answer)) (sym (owner_is asker k e) ∙ ap owner_of (sym q) ∙ owner_is card c served) (sym q)))
       in
-      quiet (heard_on card c before) old r.station (reset_made old asker k r i.made o) (ap (λ (x : Station). row_at x c) o.station ∙ reset-apart old asker k c n) i
+      quiet (heard_on card c before) old r.station (reset_made old asker k r i.made o) (ap (λ (x : Station). row_at x c) o.station ∙ reset_apart old asker k c n) i
 
   -- ---- the good strings are answered as taken
   module _ (made : WellMade st) (good : (hs : List Heard) → NothingElse (held_at st c) f hs → Once f hs → GoodTaken (held_at st c) f hs) where
@@ -227,7 +227,7 @@ relocked st card c taken r made e o t f b =
     let by_Row = subst
     (λ (x : Row). (g : ℕ) → FirstOf15 x.start g
     → (g ≤ taken.epoch + 29) × ((hs : List Heard) → NothingElse (frame_of x) g hs → Once g hs → GoodTaken (frame_of x) g hs))
-    (sym (ap (λ (x : Station). row_at x c) o.station ∙ after-own st card c made.rows e taken.epoch taken.bytes))
+    (sym (ap (λ (x : Station). row_at x c) o.station ∙ after_own st card c made.rows e taken.epoch taken.bytes))
     (relock_row row taken (record { row = next; answer = r.answer }) (made.strings c (served_below card c e)) (row_offers st card c taken.epoch taken.bytes r e o) t) f b
     in
     record {

@@ -27,8 +27,8 @@ use Rattle.station.specs.declared.Emptied.{Emptied}
 use Rattle.station.specs.Station.{owner_of, no_row, row_at, held_at, is_served, shut_says, told_in, OffersTo, Resets}
 use Rattle.station.specs.History.{Call, Offer, Reset, channel_of, itself, is_let_in, shut_said, is_on, calls_on, calls_by, said_on, said_after, Part, ShownIn, Runs}
 use Rattle.station.specs.Demand3.{SameCalls}
-use Rattle.station.proofs.Served.{open-says, shut-says, served_below, below_served}
-use Rattle.station.proofs.ChannelRuns.{in_step, on_both, on-another, calls_other, own_answer}
+use Rattle.station.proofs.Served.{open_says, shut_says_lem, served_below, below_served}
+use Rattle.station.proofs.ChannelRuns.{in_step, on_both, on_another, calls_other, own_answer}
 use Rattle.station.proofs.Holding.{held_once}
 use Rattle.station.proofs.BookRule.{slot_holds, book_full}
 use Rattle.station.proofs.AfterOffer.{same_station}
@@ -84,12 +84,12 @@ module _ (cs ds : List Call) (st st' : Station) (run : Runs cs st) (run' : Runs 
         ap (λ (j : ℕ). get_or st.book.entries j blank) (sym e) ∙ same-slot (suc i) (omega arith) (omega (arith, f)) ∙ ap (λ (j : ℕ). get_or st'.book.entries j blank) e)
 
     -- TWO STATIONS HOLD THE SAME BOOK, whatever channels the entries came by and in whatever order
-    pub same-book : st.book ≡ st'.book
-    same-book = ap (λ (l : List Entry). record { entries = l }) same_entries
+    pub same_book : st.book ≡ st'.book
+    same_book = ap (λ (l : List Entry). record { entries = l }) same_entries
 
   -- equal books, equal walks
-  same-summary : st.book ≡ st'.book → st.summary ≡ st'.summary
-  same-summary e = runs_walked cs st run ∙ ap (λ (b : Book). walk_of b.entries) e ∙ sym (runs_walked ds st' run')
+  same_summary : st.book ≡ st'.book → st.summary ≡ st'.summary
+  same_summary e = runs_walked cs st run ∙ ap (λ (b : Book). walk_of b.entries) e ∙ sym (runs_walked ds st' run')
 
   -- that had the same calls on every channel
   module _ (same : SameCalls cs ds) where
@@ -106,8 +106,8 @@ module _ (cs ds : List Call) (st st' : Station) (run : Runs cs st) (run' : Runs 
     -- ARE THE SAME STATION: only each channel's own order counts
     pub reorder : st ≡ st'
     reorder =
-        let book = same-book (same_shown cs ds same) (same_shown ds cs (same_back cs ds same)) in
-        same_station st st' same_rows book (same-summary book)
+        let book = same_book (same_shown cs ds same) (same_shown ds cs (same_back cs ds same)) in
+        same_station st st' same_rows book (same_summary book)
 
 -- ---- each call's answer
 -- it is told by the calls before it on its channel
@@ -121,7 +121,7 @@ unfolding said_after
 offer_said cs st run card c epoch s r o = by (is_served card c) refl
   where
     by : (t : Bool) → is_served card c ≡ t → answer_paper r.answer ≡ pick t (said_to (held_after (calls_on c cs)) epoch s) (shut_says card c)
-    by false e = o.answer ∙ shut-says card c (offer_tests (held_at st c) epoch s) (told_in st c epoch s) e
+    by false e = o.answer ∙ shut_says_lem card c (offer_tests (held_at st c) epoch s) (told_in st c epoch s) e
     by true e =
         own_answer st card c epoch s r e o ∙ ap (λ (f : Frame). said_to f epoch s) (held_is (calls_on c cs) (row_at st c) ((in_step cs st run).run c (served_below card c e)))
 
@@ -131,14 +131,14 @@ reset_said cs st card c r o = by (is_served card c) refl
   where
     by : (t : Bool) → is_served card c ≡ t → written_paper r.answer ≡ pick t (0 ∷ []) (shut_says card c)
     by false e = o.answer
-    by true e = o.answer ∙ open-says card c [] [] e
+    by true e = o.answer ∙ open_says card c [] [] e
 
 -- ---- two neighbouring calls on different channels
 module _ (x y : Call) (differ : channel_of x ≡ channel_of y → ⊥) where
   -- exchanged, they leave each channel's calls as they were
-  calls-exchanged : (cs : List Call) (c : ℕ) → calls_on c (x ∷ y ∷ cs) ≡ calls_on c (y ∷ x ∷ cs)
+  calls_exchanged : (cs : List Call) (c : ℕ) → calls_on c (x ∷ y ∷ cs) ≡ calls_on c (y ∷ x ∷ cs)
   unfolding calls_by
-  calls-exchanged cs c = by (is_on c x) (is_on c y) refl refl
+  calls_exchanged cs c = by (is_on c x) (is_on c y) refl refl
     where
       by : (t u : Bool) → is_on c x ≡ t → is_on c y ≡ u
           → pick t (itself x ∷ pick u (itself y ∷ calls_on c cs) (calls_on c cs)) (pick u (itself y ∷ calls_on c cs) (calls_on c cs))
@@ -149,15 +149,15 @@ module _ (x y : Call) (differ : channel_of x ≡ channel_of y → ⊥) where
       by false false e f = refl
 
   -- with any calls after them
-  pub same-later : (later cs : List Call) (c : ℕ) → calls_on c (later ++ (x ∷ y ∷ cs)) ≡ calls_on c (later ++ (y ∷ x ∷ cs))
+  pub same_later : (later cs : List Call) (c : ℕ) → calls_on c (later ++ (x ∷ y ∷ cs)) ≡ calls_on c (later ++ (y ∷ x ∷ cs))
   unfolding calls_by
-  same-later [] cs c = calls-exchanged cs c
-  same-later (z ∷ later) cs c =
-      ap (λ (l : List OnChannel). pick (is_on c z) (itself z ∷ l) l) (same-later later cs c)
+  same_later [] cs c = calls_exchanged cs c
+  same_later (z ∷ later) cs c =
+      ap (λ (l : List OnChannel). pick (is_on c z) (itself z ∷ l) l) (same_later later cs c)
 
   -- and neither is a call on the other's channel
-  pub not-x : (cs : List Call) → calls_on (channel_of y) (x ∷ cs) ≡ calls_on (channel_of y) cs
-  not-x cs = calls_other (channel_of y) x cs (on-another x (channel_of y) differ)
+  pub not_x : (cs : List Call) → calls_on (channel_of y) (x ∷ cs) ≡ calls_on (channel_of y) cs
+  not_x cs = calls_other (channel_of y) x cs (on_another x (channel_of y) differ)
 
-  pub not-y : (cs : List Call) → calls_on (channel_of x) (y ∷ cs) ≡ calls_on (channel_of x) cs
-  not-y cs = calls_other (channel_of x) y cs (on-another y (channel_of x) (λ e. differ (sym e)))
+  pub not_y : (cs : List Call) → calls_on (channel_of x) (y ∷ cs) ≡ calls_on (channel_of x) cs
+  not_y cs = calls_other (channel_of x) y cs (on_another y (channel_of x) (λ e. differ (sym e)))

@@ -66,13 +66,13 @@ none_first (u ∷ us) a e =
 
 -- ---- the gate
 module _ (card c : ℕ) (ts : List Test) (told : List ℕ) where
-  pub open-says : is_served card c ≡ true → answer_of (gate_tests card c ++ ts) told ≡ answer_of ts told
+  pub open_says : is_served card c ≡ true → answer_of (gate_tests card c ++ ts) told ≡ answer_of ts told
   unfolding is_served
-  open-says e = none_fits_lem (gate_tests card c) ts told e
+  open_says e = none_fits_lem (gate_tests card c) ts told e
 
-  pub shut-says : is_served card c ≡ false → answer_of (gate_tests card c ++ ts) told ≡ shut_says card c
+  pub shut_says_lem : is_served card c ≡ false → answer_of (gate_tests card c ++ ts) told ≡ shut_says card c
   unfolding is_served
-  shut-says e = one_fits (gate_tests card c) ts told tt e
+  shut_says_lem e = one_fits (gate_tests card c) ts told tt e
 
 -- where no test fits, none of those after the gate does
 pub past_gate : (card c : ℕ) (ts : List Test) → first_of (gate_tests card c ++ ts) ≡ 0 → first_of ts ≡ 0

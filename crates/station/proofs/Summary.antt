@@ -25,7 +25,7 @@ use Rattle.station.specs.declared.Station.{Station}
 use Rattle.station.specs.Queries.{is_empty}
 use Rattle.station.specs.History.{Call, ShownIn, Greatest, Runs}
 use Rattle.station.specs.Summary.{SomeShown, DayShown, how_many_of, SummaryRule}
-use Rattle.station.proofs.BookRule.{empty-exactly, greatest-there, book_full}
+use Rattle.station.proofs.BookRule.{empty_exactly, greatest_there, book_full}
 use Rattle.station.proofs.Walked.{runs_walked}
 
 -- ---- the filled lines, counted by a test of their slots
@@ -52,25 +52,25 @@ module _ (cs : List Call) (st : Station) (history : Runs cs st) where
   lines = st.book.entries
 
   -- what is shown is for a slot of the book
-  in-slots : (k : ℕ) (t : Three) → ShownIn cs k t → (1 ≤ k) × (k ≤ slots)
-  in-slots k t w = subst InBook w.shows (in_book (held_after w.moment) w.pair)
+  in_slots : (k : ℕ) (t : Three) → ShownIn cs k t → (1 ≤ k) × (k ≤ slots)
+  in_slots k t w = subst InBook w.shows (in_book (held_after w.moment) w.pair)
 
   pub shown_filled : (k : ℕ) (t : Three) → ShownIn cs k t → (in_slot st.book k).day ≡ 0 → ⊥
-  shown_filled k t w z = let i = in-slots k t w in (empty-exactly cs st history k i.0 i.1).0 z t w
+  shown_filled k t w z = let i = in_slots k t w in (empty_exactly cs st history k i.0 i.1).0 z t w
 
   -- the slot holds the greatest
   pub held : (k : ℕ) (t : Three) → Greatest cs k t → meaning (in_slot st.book k) ≡ t
   held k t g =
-      let i = in-slots k t g.shown in
+      let i = in_slots k t g.shown in
       let x = meaning (in_slot st.book k) in
-      let h = greatest-there cs st history k i.0 i.1 (shown_filled k t g.shown) in
+      let h = greatest_there cs st history k i.0 i.1 (shown_filled k t g.shown) in
       below_same x t (h.none_above t g.shown) (g.none_above x h.shown)
 
   -- the days that the lines hold
   to_held : (day : ℕ) → DayShown cs day → Holds lines day
   to_held day w =
       let k = w.slot in
-      let i = in-slots k w.three w.greatest.shown in
+      let i = in_slots k w.three w.greatest.shown in
       let d : (in_slot st.book k).day ≡ day = ap (λ (t : Three). t.day) (held k w.three w.greatest) ∙ w.its_day in
       record {
         line = k - 1;
@@ -79,15 +79,15 @@ module _ (cs : List Call) (st : Station) (history : Runs cs st) where
         entry = λ z. shown_filled k w.three w.greatest.shown (d ∙ z);
       }
 
-  from-held : (day : ℕ) → Holds lines day → DayShown cs day
-  from-held day h =
+  from_held : (day : ℕ) → Holds lines day → DayShown cs day
+  from_held day h =
       let k = suc h.line in
       let e : k - 1 ≡ h.line = omega arith in
       let d : (in_slot st.book k).day ≡ day = ap (λ (i : ℕ). (get_or lines i blank).day) e ∙ h.day in
       record {
         slot = k;
         three = meaning (in_slot st.book k);
-        greatest = greatest-there cs st history k (omega arith) (omega (arith, book_full cs st history, h.there)) (λ z. h.entry (sym d ∙ z));
+        greatest = greatest_there cs st history k (omega arith) (omega (arith, book_full cs st history, h.there)) (λ z. h.entry (sym d ∙ z));
         its_day = d;
       }
 
@@ -101,7 +101,7 @@ module _ (cs : List Call) (st : Station) (history : Runs cs st) where
       by : (t : Bool) → is_empty st.book k ≡ t → not t ≡ true → SomeShown cs k
       by true e q = absurd (true≢false (sym q))
       by false e q =
-          let g = greatest-there cs st history k least most (eqb-false (in_slot st.book k).day 0 e) in
+          let g = greatest_there cs st history k least most (eqb-false (in_slot st.book k).day 0 e) in
           record { three = meaning (in_slot st.book k); shown = g.shown }
 
   counted : length (filled lines) ≡ how_many_of is_shown (1 to slots)
@@ -113,8 +113,8 @@ module _ (cs : List Call) (st : Station) (history : Runs cs st) where
       ap is_shown (slot_at i (omega (arith, f, l))) ∙ ap (λ (j : ℕ). not (eqb (get_or lines j blank).day 0)) e)
 
   -- WHAT THE SUMMARY SAYS OF THE CALLS
-  pub summary-rule : SummaryRule cs st
-  summary-rule =
+  pub summary_rule : SummaryRule cs st
+  summary_rule =
       let w = runs_walked cs st history in
       let m : Means lines st.summary = subst (Means lines) (sym w) (walk_means.means lines) in
       record {
@@ -122,9 +122,9 @@ module _ (cs : List Call) (st : Station) (history : Runs cs st) where
         is_shown_lem = is_shown;
         tells = tells;
         count = m.count ∙ counted;
-        oldest_there = λ day d. from-held st.summary.oldest (m.oldest_there day (to_held day d));
+        oldest_there = λ day d. from_held st.summary.oldest (m.oldest_there day (to_held day d));
         oldest_first = λ day d. m.oldest_first day (to_held day d);
-        newest_there = λ day d. from-held st.summary.newest (m.newest_there day (to_held day d));
+        newest_there = λ day d. from_held st.summary.newest (m.newest_there day (to_held day d));
         newest_last = λ day d. m.newest_last day (to_held day d);
-        empty = λ n. m.empty (λ day h. let d = from-held day h in n d.slot (record { three = d.three; shown = d.greatest.shown }));
+        empty = λ n. m.empty (λ day h. let d = from_held day h in n d.slot (record { three = d.three; shown = d.greatest.shown }));
       }

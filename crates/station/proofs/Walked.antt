@@ -21,7 +21,7 @@ use Rattle.station.specs.declared.Stepped.{Stepped}
 use Rattle.station.specs.declared.Emptied.{Emptied}
 use Rattle.station.specs.Station.{fresh_station, row_at, is_served, book_after, entry_changes, corrected, summary_after, OffersTo, Resets}
 use Rattle.station.specs.History.{Call, Runs, fresh, offering, resetting}
-use Rattle.station.proofs.ChannelRuns.{after_none, after-some, reset-none, reset-some}
+use Rattle.station.proofs.ChannelRuns.{after_none, after_some, reset_none, reset_some}
 
 abbrev pub Walked : Station → Type 0
 Walked st = st.summary ≡ walk_of st.book.entries
@@ -52,14 +52,14 @@ offer_walked st card c epoch s r w o = by (is_served card c) refl
   where
     by : (t : Bool) → is_served card c ≡ t → Walked r.station
     by false e = subst Walked (sym (o.station ∙ after_none st card c epoch s e)) w
-    by true e = subst Walked (sym (o.station ∙ after-some st card c epoch s e)) (still_walked st.book st.summary (row_at st c) epoch s w)
+    by true e = subst Walked (sym (o.station ∙ after_some st card c epoch s e)) (still_walked st.book st.summary (row_at st c) epoch s w)
 
 pub reset_walked : (st : Station) (card c : ℕ) (r : Emptied) → Walked st → Resets st card c r → Walked r.station
 reset_walked st card c r w o = by (is_served card c) refl
   where
     by : (t : Bool) → is_served card c ≡ t → Walked r.station
-    by false e = subst Walked (sym (o.station ∙ reset-none st card c e)) w
-    by true e = subst Walked (sym (o.station ∙ reset-some st card c e)) w
+    by false e = subst Walked (sym (o.station ∙ reset_none st card c e)) w
+    by true e = subst Walked (sym (o.station ∙ reset_some st card c e)) w
 
 -- THE SUMMARY IS THE WALK OF THE BOOK
 pub runs_walked : (cs : List Call) (st : Station) → Runs cs st → Walked st

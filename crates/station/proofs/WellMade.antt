@@ -17,7 +17,7 @@ use Rattle.channel.specs.declared.Row.{Row}
 use Rattle.channel.specs.Row.{frame_of, empty_row}
 use Rattle.channel.specs.Offers.{offered_row, stores_it}
 use Rattle.shows.specs.Shows.{shows_of, brought}
-use Rattle.channel.proofs.HeldFrame.{offered-long}
+use Rattle.channel.proofs.HeldFrame.{offered_long}
 use Rattle.station.specs.declared.Station.{Station}
 use Rattle.station.specs.declared.Stepped.{Stepped}
 use Rattle.station.specs.declared.Emptied.{Emptied}
@@ -25,7 +25,7 @@ use Rattle.station.specs.Station.{channels, fresh_station, no_row, row_at, is_se
 use Rattle.station.specs.History.{Call, Runs, fresh, offering, resetting}
 use Rattle.station.specs.Demand1.{WellMade}
 use Rattle.station.proofs.Served.{served_below}
-use Rattle.station.proofs.ChannelRuns.{after_none, after-some, reset-none, reset-some}
+use Rattle.station.proofs.ChannelRuns.{after_none, after_some, reset_none, reset_some}
 use Rattle.station.proofs.Holding.{brought_full}
 
 -- A FRESH STATION IS WELL MADE, AND EVERY CALL LEAVES IT SO
@@ -59,9 +59,9 @@ offer_made st card c epoch s r w o = by (is_served card c) refl
     by : (t : Bool) → is_served card c ≡ t → WellMade r.station
     by false e = subst WellMade (sym (o.station ∙ after_none st card c epoch s e)) w
     by true e =
-        subst WellMade (sym (o.station ∙ after-some st card c epoch s e))
+        subst WellMade (sym (o.station ∙ after_some st card c epoch s e))
         (put_made st c (offered_row (row_at st c) epoch s) (book_after st.book (row_at st c) epoch s) (summary_after st.summary st.book (row_at st c) epoch s) w (served_below card c e)
-        (offered-long (row_at st c) epoch s (w.strings c (served_below card c e)))
+        (offered_long (row_at st c) epoch s (w.strings c (served_below card c e)))
         (book (stores_it (frame_of (row_at st c)) epoch s)))
 
 pub reset_made : (st : Station) (card c : ℕ) (r : Emptied) → WellMade st → Resets st card c r → WellMade r.station
@@ -69,8 +69,8 @@ unfolding empty_row
 reset_made st card c r w o = by (is_served card c) refl
   where
     by : (t : Bool) → is_served card c ≡ t → WellMade r.station
-    by false e = subst WellMade (sym (o.station ∙ reset-none st card c e)) w
-    by true e = subst WellMade (sym (o.station ∙ reset-some st card c e)) (put_made st c empty_row st.book st.summary w (served_below card c e) (length-replicate {A = ℕ} 165 0) w.entries)
+    by false e = subst WellMade (sym (o.station ∙ reset_none st card c e)) w
+    by true e = subst WellMade (sym (o.station ∙ reset_some st card c e)) (put_made st c empty_row st.book st.summary w (served_below card c e) (length-replicate {A = ℕ} 165 0) w.entries)
 
 -- so is every station that calls leave
 pub runs_made : (cs : List Call) (st : Station) → Runs cs st → WellMade st

@@ -29,9 +29,9 @@ module _ {told made out : List ℕ} where
   refuses k e = record { answer = rw e; output = rw e }
 
   -- the tests give this number and no place
-  pub refuses-by : (ts : List Test) (n : ℕ) → (n ≡ 0 → ⊥) → first_of ts ≡ n → place_of ts ≡ [] → Answers ts told made out (n ∷ []) out
-  refuses-by ts zero z e f = absurd (z refl)
-  refuses-by ts (suc k) z e f = record { answer = rw (e, f); output = rw e }
+  pub refuses_by : (ts : List Test) (n : ℕ) → (n ≡ 0 → ⊥) → first_of ts ≡ n → place_of ts ≡ [] → Answers ts told made out (n ∷ []) out
+  refuses_by ts zero z e f = absurd (z refl)
+  refuses_by ts (suc k) z e f = record { answer = rw (e, f); output = rw e }
 
   -- the first test does not fit: the answer is that of the others
   pub goes_on : (k : ℕ) {p : List ℕ} {b : Bool} {ts : List Test} {said out' : List ℕ} → b ≡ false → Answers ts told made out said out'
@@ -162,27 +162,27 @@ module _ (t : Test) (ts : List Test) (a : T (apart (t ∷ ts))) where
   abbrev lone : Bool
   lone = not (among t.number ts)
 
-  head-nonzero : t.number ≡ 0 → ⊥
-  head-nonzero = nonzero t.number (and_left own lone (and_left (own && lone) (apart ts) a))
+  head_nonzero : t.number ≡ 0 → ⊥
+  head_nonzero = nonzero t.number (and_left own lone (and_left (own && lone) (apart ts) a))
 
-  head-lone : T (among t.number ts) → ⊥
-  head-lone = T_not (among t.number ts) (and_right own lone (and_left (own && lone) (apart ts) a))
+  head_lone : T (among t.number ts) → ⊥
+  head_lone = T_not (among t.number ts) (and_right own lone (and_left (own && lone) (apart ts) a))
 
   tail_apart : T (apart ts)
   tail_apart = and_right (own && lone) (apart ts) a
 
   -- the head's test, and the number that is given
-  head-given : (b : Bool) → pick b t.number (first_of ts) ≡ t.number → T b
-  head-given true e = tt
-  head-given false e = head-lone (first_among ts t.number head-nonzero e)
+  head_given : (b : Bool) → pick b t.number (first_of ts) ≡ t.number → T b
+  head_given true e = tt
+  head_given false e = head_lone (first_among ts t.number head_nonzero e)
 
-  later-given : (b : Bool) (j : ℕ) → j < length ts → pick b t.number (first_of ts) ≡ number_at ts j → (T b → ⊥) × (first_of ts ≡ number_at ts j)
-  later-given true j l e = absurd (head-lone (subst (λ (n : ℕ). T (among n ts)) (sym e) (at_among ts j l)))
-  later-given false j l e = ((λ x. x), e)
+  later_given : (b : Bool) (j : ℕ) → j < length ts → pick b t.number (first_of ts) ≡ number_at ts j → (T b → ⊥) × (first_of ts ≡ number_at ts j)
+  later_given true j l e = absurd (head_lone (subst (λ (n : ℕ). T (among n ts)) (sym e) (at_among ts j l)))
+  later_given false j l e = ((λ x. x), e)
 
-  none-given : (b : Bool) → pick b t.number (first_of ts) ≡ 0 → (T b → ⊥) × (first_of ts ≡ 0)
-  none-given true e = absurd (head-nonzero e)
-  none-given false e = ((λ x. x), e)
+  none_given : (b : Bool) → pick b t.number (first_of ts) ≡ 0 → (T b → ⊥) × (first_of ts ≡ 0)
+  none_given true e = absurd (head_nonzero e)
+  none_given false e = ((λ x. x), e)
 
 past : (b : Bool) (n m k : ℕ) → (T b → ⊥) → m ≡ k → pick b n m ≡ k
 past true n m k h e = absurd (h tt)
@@ -198,9 +198,9 @@ clear_cons t ts j h c (suc i) l = c i (le_of_suc-le-suc l)
 
 given_there : (ts : List Test) → T (apart ts) → (j : ℕ) → j < length ts → first_of ts ≡ number_at ts j → FitsAt ts j × Clear ts j
 given_there [] a j l e = absurd (not-suc-le-zero l)
-given_there (t ∷ ts) a zero l e = (head-given t ts a t.fits e, (λ i h. absurd (not-suc-le-zero h)))
+given_there (t ∷ ts) a zero l e = (head_given t ts a t.fits e, (λ i h. absurd (not-suc-le-zero h)))
 given_there (t ∷ ts) a (suc j) l e =
-    let p = later-given t ts a t.fits j (le_of_suc-le-suc l) e in
+    let p = later_given t ts a t.fits j (le_of_suc-le-suc l) e in
     let q = given_there ts (tail_apart t ts a) j (le_of_suc-le-suc l) p.1 in
     (q.0, clear_cons t ts j p.0 q.1)
 
@@ -214,7 +214,7 @@ there_given (t ∷ ts) (suc j) l f c =
 given_none : (ts : List Test) → T (apart ts) → first_of ts ≡ 0 → Clear ts (length ts)
 given_none [] a e = λ i h. absurd (not-suc-le-zero h)
 given_none (t ∷ ts) a e =
-    let p = none-given t ts a t.fits e in
+    let p = none_given t ts a t.fits e in
     clear_cons t ts (length ts) p.0 (given_none ts (tail_apart t ts a) p.1)
 
 none_given_there : (ts : List Test) → Clear ts (length ts) → first_of ts ≡ 0

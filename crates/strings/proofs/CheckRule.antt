@@ -27,8 +27,8 @@ use Rattle.strings.proofs.Value.{number_lt, string_number_lem}
 use Rattle.strings.proofs.Shape.{shaped, string_shaped}
 use Rattle.strings.proofs.Answer.{same_answer, checked_same, exactly, first_given, taken_made, refused_left}
 use Rattle.strings.proofs.Tests.{past_first}
-use Rattle.strings.proofs.SoundTests.{IsSound, sound-alone}
-use Rattle.strings.proofs.CheckAnswers.{check-damaged, check-idle, check-taken}
+use Rattle.strings.proofs.SoundTests.{IsSound, sound_alone}
+use Rattle.strings.proofs.CheckAnswers.{check_damaged, check_idle, check_taken}
 use Rattle.strings.proofs.Judge.{mended_lt}
 use Rattle.strings.proofs.Flips.{encoded_ruling, one_flip_ruling, bit_8_ruling, two_flips_ruling, left_encoded}
 
@@ -39,20 +39,20 @@ module _ (s out : List ℕ) where
   check_once r q out' out'' a b = let e = same_answer a b in (checked_same r q e.0, e.1)
 
   -- where no test fits, the bytes have the shape of a string, which is neither damaged nor idle
-  pub check-first : first_of (check_tests s out) ≡ 0 → (misshapen s ≡ false) × IsSound (number_of s)
-  check-first e =
+  pub check_first : first_of (check_tests s out) ≡ 0 → (misshapen s ≡ false) × IsSound (number_of s)
+  check_first e =
       let p = past_first 11 (no_room out) (drop 1 (check_tests s out)) e in
       let q = past_first 1 (misshapen s) (drop 2 (check_tests s out)) p.1 in
-      (q.0, sound-alone (number_of s) q.1)
+      (q.0, sound_alone (number_of s) q.1)
 
-  pub check-took : (v : Verdict) (out' : List ℕ) → Checks s out (Taken v) out' → (misshapen s ≡ false) × IsSound (number_of s)
+  pub check_took : (v : Verdict) (out' : List ℕ) → Checks s out (Taken v) out' → (misshapen s ≡ false) × IsSound (number_of s)
   unfolding Checks
-  check-took v out' a = check-first (first_given (check_tests s out) (verdict_told (ruling (number_of s))) a.answer)
+  check_took v out' a = check_first (first_given (check_tests s out) (verdict_told (ruling (number_of s))) a.answer)
 
   -- "Refusals leave outputs untouched"
-  pub check-untouched : (q : Refusal) (out' : List ℕ) → Checks s out (Refused q) out' → out' ≡ out
+  pub check_untouched : (q : Refusal) (out' : List ℕ) → Checks s out (Refused q) out' → out' ≡ out
   unfolding Checks
-  check-untouched q out' a = refused_left q a
+  check_untouched q out' a = refused_left q a
 
   pub check_numbers : (r : Checked) (out' : List ℕ) → Checks s out r out' → Exactly (check_tests s out) (checked_paper r)
   unfolding Checks sound_tests
@@ -60,8 +60,8 @@ module _ (s out : List ℕ) where
 
 -- ---- the answer for the bytes of a string, by its ruling and its idle bit
 module _ (n : ℕ) (h : n < 2 ^ 85) (out : List ℕ) (room : length out ≡ 11) where
-  says-damaged : (d : Damage) → ruling n ≡ Bad d → Checks (bytes_of_string n) out (Refused (DAMAGED d)) out
-  says-damaged d e = check-damaged _ out room (string_shaped n h) d (ap ruling (string_number_lem n h) ∙ e)
+  says_damaged : (d : Damage) → ruling n ≡ Bad d → Checks (bytes_of_string n) out (Refused (DAMAGED d)) out
+  says_damaged d e = check_damaged _ out room (string_shaped n h) d (ap ruling (string_number_lem n h) ∙ e)
 
   module _ (v : Verdict) (e : ruling n ≡ Sound v) where
     ruled : ruling (number_of (bytes_of_string n)) ≡ Sound v
@@ -71,28 +71,28 @@ module _ (n : ℕ) (h : n < 2 ^ 85) (out : List ℕ) (room : length out ≡ 11) 
     left = ap (mended_by (Sound v)) (string_number_lem n h)
 
     says-idle : bit_of (mended_by (Sound v) n) 85 ≡ 1 → Checks (bytes_of_string n) out (Refused Idle) out
-    says-idle b = check-idle _ out room (string_shaped n h) v ruled (eq-eqb _ _ (ap (λ (m : ℕ). bit_of m 85) left ∙ b))
+    says-idle b = check_idle _ out room (string_shaped n h) v ruled (eq-eqb _ _ (ap (λ (m : ℕ). bit_of m 85) left ∙ b))
 
     says-taken : bit_of (mended_by (Sound v) n) 85 ≡ 0 → Checks (bytes_of_string n) out (Taken v) (bytes_of_string (mended_by (Sound v) n))
     says-taken b =
         subst (λ (m : ℕ). Checks (bytes_of_string n) out (Taken v) (bytes_of_string m)) left
-        (check-taken _ out room (string_shaped n h) v ruled (ap (λ (m : ℕ). is_idle m) left ∙ ap (λ (b : ℕ). eqb b 1) b))
+        (check_taken _ out room (string_shaped n h) v ruled (ap (λ (m : ℕ). is_idle m) left ∙ ap (λ (b : ℕ). eqb b 1) b))
 
 -- ---- "So from an encoded string one flip is repaired unless it is bit 8, and every two flips are DAMAGED"
 module _ (n : ℕ) (h : n < 2 ^ 85) (v : Encoded n) (out : List ℕ) (room : length out ≡ 11) (r : Checked) (out' : List ℕ) where
   -- an encoded string whose idle bit is 0 is clean, and is written as it came
-  pub encoded-clean : bit_of n 85 ≡ 0 → Checks (bytes_of_string n) out r out' → (r ≡ Taken Clean) × (out' ≡ bytes_of_string n)
-  encoded-clean b a = check_once _ out r _ out' _ a (says-taken n h out room Clean (encoded_ruling n v) b)
+  pub encoded_clean : bit_of n 85 ≡ 0 → Checks (bytes_of_string n) out r out' → (r ≡ Taken Clean) × (out' ≡ bytes_of_string n)
+  encoded_clean b a = check_once _ out r _ out' _ a (says-taken n h out room Clean (encoded_ruling n v) b)
 
   -- one whose idle bit is 1 is refused, and nothing is written
-  pub idle-refused : bit_of n 85 ≡ 1 → Checks (bytes_of_string n) out r out' → (r ≡ Refused Idle) × (out' ≡ out)
-  idle-refused b a = check_once _ out r _ out' _ a (says-idle n h out room Clean (encoded_ruling n v) b)
+  pub idle_refused : bit_of n 85 ≡ 1 → Checks (bytes_of_string n) out r out' → (r ≡ Refused Idle) × (out' ≡ out)
+  idle_refused b a = check_once _ out r _ out' _ a (says-idle n h out room Clean (encoded_ruling n v) b)
 
   -- "By the last line a flip of bit 8 alone is refused": 31, and nothing is written
-  pub bit-8-damaged : Checks (bytes_of_string (flip n 8)) out r out' → (checked_paper r ≡ 31 ∷ []) × (out' ≡ out)
-  bit-8-damaged a =
+  pub bit_8_damaged : Checks (bytes_of_string (flip n 8)) out r out' → (checked_paper r ≡ 31 ∷ []) × (out' ≡ out)
+  bit_8_damaged a =
       let e =
-      check_once _ out r _ out' _ a (says-damaged (flip n 8) (flip_lt 85 n 8 h (omega arith) (omega arith)) out room Unplaced (bit_8_ruling n v))
+      check_once _ out r _ out' _ a (says_damaged (flip n 8) (flip_lt 85 n 8 h (omega arith) (omega arith)) out room Unplaced (bit_8_ruling n v))
       in
       (ap checked_paper e.0, e.1)
 
@@ -101,8 +101,8 @@ module _ (n : ℕ) (h : n < 2 ^ 85) (v : Encoded n) (out : List ℕ) (room : len
     back = flip_undo 85 n i h l u
 
     -- one flip of any bit but 8 is repaired, its number is told, and the string is written as it was sent
-    pub one-flip-repaired : (i ≡ 8 → ⊥) → bit_of n 85 ≡ 0 → Checks (bytes_of_string (flip n i)) out r out' → (r ≡ Taken (Repaired i)) × (out' ≡ bytes_of_string n)
-    one-flip-repaired ne b a =
+    pub one_flip_repaired : (i ≡ 8 → ⊥) → bit_of n 85 ≡ 0 → Checks (bytes_of_string (flip n i)) out r out' → (r ≡ Taken (Repaired i)) × (out' ≡ bytes_of_string n)
+    one_flip_repaired ne b a =
         let m = flip n i in
         let e = check_once _ out r _ out' _ a
         (says-taken m (flip_lt 85 n i h l u) out room (Repaired i) (one_flip_ruling n i v l u ne) (ap (λ (m : ℕ). bit_of m 85) back ∙ b)) in
@@ -115,23 +115,23 @@ module _ (n : ℕ) (h : n < 2 ^ 85) (v : Encoded n) (out : List ℕ) (room : len
         (says-idle (flip n i) (flip_lt 85 n i h l u) out room (Repaired i) (one_flip_ruling n i v l u ne) (ap (λ (m : ℕ). bit_of m 85) back ∙ b))
 
     -- two different flips are DAMAGED: 32, and nothing is written
-    pub two-flips-damaged : (j : ℕ) → 1 ≤ j → j ≤ 85 → (i ≡ j → ⊥) → Checks (bytes_of_string (flip (flip n i) j)) out r out'
+    pub two_flips_damaged : (j : ℕ) → 1 ≤ j → j ≤ 85 → (i ≡ j → ⊥) → Checks (bytes_of_string (flip (flip n i) j)) out r out'
         → (checked_paper r ≡ 32 ∷ []) × (out' ≡ out)
-    two-flips-damaged j l' u' ne a =
+    two_flips_damaged j l' u' ne a =
         let m = flip (flip n i) j in
         let e =
         check_once _ out r _ out' _ a
-        (says-damaged m (flip_lt 85 (flip n i) j (flip_lt 85 n i h l u) l' u') out room Even (two_flips_ruling n i j v l u l' u' ne))
+        (says_damaged m (flip_lt 85 (flip n i) j (flip_lt 85 n i h l u) l' u') out room Even (two_flips_ruling n i j v l u l' u' ne))
         in
         (ap checked_paper e.0, e.1)
 
 -- ---- whatever the check writes is encoded and has its idle bit at 0; and checking it again is clean
 module _ (s : List ℕ) (b : Bytes s) (out : List ℕ) (v : Verdict) (out' : List ℕ) (a : Checks s out (Taken v) out') where
-  pub written-whole : Whole out'
+  pub written_whole : Whole out'
   unfolding Checks
-  written-whole =
+  written_whole =
       let n = number_of s in
-      let c = check-took s out v out' a in
+      let c = check_took s out v out' a in
       let len = (shaped s c.0).0 in
       record {
         number = mended n;
@@ -143,6 +143,6 @@ module _ (s : List ℕ) (b : Bytes s) (out : List ℕ) (v : Verdict) (out' : Lis
 
   pub checked_again : (again : List ℕ) (q : Checked) (again' : List ℕ) → length again ≡ 11 → Checks out' again q again' → (q ≡ Taken Clean) × (again' ≡ out')
   checked_again again q again' room c =
-      let w = written-whole in
-      let e = encoded-clean w.number w.small w.encoded again room q again' w.idle (subst (λ (l : List ℕ). Checks l again q again') w.bytes c) in
+      let w = written_whole in
+      let e = encoded_clean w.number w.small w.encoded again room q again' w.idle (subst (λ (l : List ℕ). Checks l again q again') w.bytes c) in
       (e.0, e.1 ∙ sym w.bytes)

@@ -54,58 +54,58 @@ module _ (x : ℕ) where
   abbrev NoneFits : Type 0
   NoneFits = (fit 0 ≡ false) × ((fit 1 ≡ false) × (fit 2 ≡ false))
 
-  pub no-damage : is_damaged (ruling x) ≡ false → NoneFits
-  no-damage e = none_of (fit 0) (fit 1) (fit 2) ((damaged_exactly x).one ∙ rw e)
+  pub no_damage : is_damaged (ruling x) ≡ false → NoneFits
+  no_damage e = none_of (fit 0) (fit 1) (fit 2) ((damaged_exactly x).one ∙ rw e)
 
-  none-damaged : NoneFits → is_damaged (ruling x) ≡ false
-  none-damaged f = by (is_damaged (ruling x)) (sym (damaged_exactly x).one ∙ rw (f.0, f.1.0, f.1.1))
+  none_damaged : NoneFits → is_damaged (ruling x) ≡ false
+  none_damaged f = by (is_damaged (ruling x)) (sym (damaged_exactly x).one ∙ rw (f.0, f.1.0, f.1.1))
     where
       by : (b : Bool) → ◌≡◌ {A = ℕ} (pick b 1 0) 0 → b ≡ false
       by true e = absurd (omega arith)
       by false e = refl
 
   -- none of them fits, nor IDLE
-  pub sound-alone : first_of (sound_tests x) ≡ 0 → IsSound x
+  pub sound_alone : first_of (sound_tests x) ≡ 0 → IsSound x
   unfolding sound_tests
-  sound-alone e =
+  sound_alone e =
       let ts = sound_tests x in
       let p = past_first 30 (fit 0) (drop 1 ts) e in
       let q = past_first 31 (fit 1) (drop 2 ts) p.1 in
       let r = past_first 32 (fit 2) (drop 3 ts) q.1 in
       let i = past_first 3 (is_idle (mended x)) [] r.1 in
-      record { sound = none-damaged (p.0, (q.0, r.0)); idle = i.0 }
+      record { sound = none_damaged (p.0, (q.0, r.0)); idle = i.0 }
 
   -- another number is given than theirs
-  pub sound-else : (k : ℕ) (ts : List Test) → T (all_of (λ j. not (eqb j k)) (sound_tests x)) → first_of (sound_tests x ++ ts) ≡ k → IsSound x × (first_of ts ≡ k)
-  sound-else k ts a e =
+  pub sound_else : (k : ℕ) (ts : List Test) → T (all_of (λ j. not (eqb j k)) (sound_tests x)) → first_of (sound_tests x ++ ts) ≡ k → IsSound x × (first_of ts ≡ k)
+  sound_else k ts a e =
       ⊎_elim
       (λ (o : T (not (eqb (first_of (sound_tests x ++ ts)) k))). absurd (T_not (eqb (first_of (sound_tests x ++ ts)) k) o (subst (λ (j : ℕ). T (eqb j k)) (sym e) (eqb_refl k))))
-      (λ (o : (first_of (sound_tests x) ≡ 0) × (first_of (sound_tests x ++ ts) ≡ first_of ts)). (sound-alone o.0, sym o.1 ∙ e))
+      (λ (o : (first_of (sound_tests x) ≡ 0) × (first_of (sound_tests x ++ ts) ≡ first_of ts)). (sound_alone o.0, sym o.1 ∙ e))
       (first_by (λ j. not (eqb j k)) (sound_tests x) ts a)
 
   -- NONE FITS, OF THEM AND OF OTHERS AFTER THEM
-  pub sound-first : (ts : List Test) → first_of (sound_tests x ++ ts) ≡ 0 → IsSound x × (first_of ts ≡ 0)
+  pub sound_first : (ts : List Test) → first_of (sound_tests x ++ ts) ≡ 0 → IsSound x × (first_of ts ≡ 0)
   unfolding sound_tests
-  sound-first ts e = sound-else 0 ts tt e
+  sound_first ts e = sound_else 0 ts tt e
 
   -- AND BACK: where it is neither, THE OTHERS DECIDE
-  pub sound-then : IsSound x → (ts : List Test) → (first_of (sound_tests x ++ ts) ≡ first_of ts) × (place_of (sound_tests x ++ ts) ≡ place_of ts)
+  pub sound_then : IsSound x → (ts : List Test) → (first_of (sound_tests x ++ ts) ≡ first_of ts) × (place_of (sound_tests x ++ ts) ≡ place_of ts)
   unfolding sound_tests
-  sound-then i ts =
-      let f = no-damage i.sound in
+  sound_then i ts =
+      let f = no_damage i.sound in
       (rw (f.0, f.1.0, f.1.1, i.idle), rw (f.0, f.1.0, f.1.1, i.idle))
 
   -- A DAMAGED STRING is answered by the number of its cause, whatever stands after these tests
-  pub damaged-says : (d : Damage) → ruling x ≡ Damaged d → (ts : List Test)
+  pub damaged_says : (d : Damage) → ruling x ≡ Damaged d → (ts : List Test)
       → (first_of (sound_tests x ++ ts) ≡ damage_number d) × (place_of (sound_tests x ++ ts) ≡ [])
   unfolding sound_tests
-  damaged-says d e ts =
+  damaged_says d e ts =
       one_of (fit 0) (fit 1) (fit 2) (damage_number d) (test 4 (is_idle (mended x)) ∷ ts) (not_zero d) ((damaged_exactly x).cause d e)
 
 -- they look at the ruling and at what it leaves: two strings that are not damaged and are repaired to one have the same tests
 pub sound_same : (x y : ℕ) → is_damaged (ruling x) ≡ false → is_damaged (ruling y) ≡ false → mended x ≡ mended y → sound_tests x ≡ sound_tests y
 unfolding sound_tests
 sound_same x y a b e =
-    let f = no-damage x a in
-    let g = no-damage y b in
+    let f = no_damage x a in
+    let g = no_damage y b in
     rw (f.0, f.1.0, f.1.1, g.0, g.1.0, g.1.1, e)

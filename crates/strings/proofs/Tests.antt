@@ -55,10 +55,10 @@ module _ (p : ℕ → Bool) where
   picked false x y a c = c
 
   -- then p of the number that is given
-  pub first-of : (ts : List Test) → T (all_of p ts) → T (p 0) → T (p (first_of ts))
-  first-of [] a z = z
-  first-of (t ∷ ts) a z =
-      picked t.fits t.number (first_of ts) (and_left (p t.number) (all_of p ts) a) (first-of ts (and_right (p t.number) (all_of p ts) a) z)
+  pub first_of_lem : (ts : List Test) → T (all_of p ts) → T (p 0) → T (p (first_of ts))
+  first_of_lem [] a z = z
+  first_of_lem (t ∷ ts) a z =
+      picked t.fits t.number (first_of ts) (and_left (p t.number) (all_of p ts) a) (first_of_lem ts (and_right (p t.number) (all_of p ts) a) z)
 
   -- x is one of the first numbers, and has p; or it comes from the others
   by_one : (b : Bool) (x y z u : ℕ) → T (p x) → T (p z) ⊎ ((y ≡ 0) × (z ≡ u)) → T (p (pick b x z)) ⊎ ((pick b x y ≡ 0) × (pick b x z ≡ u))
@@ -76,4 +76,4 @@ module _ (p : ℕ → Bool) where
 pub first_fits : (k : ℕ) (b : Bool) (ts : List Test) → T (all_of (λ j. not (eqb j k)) ts) → T (not (eqb 0 k)) → pick b k (first_of ts) ≡ k → b ≡ true
 first_fits k true ts a z e = refl
 first_fits k false ts a z e =
-    absurd (T_not (eqb (first_of ts) k) (first-of (λ j. not (eqb j k)) ts a z) (subst (λ (j : ℕ). T (eqb j k)) (sym e) (eqb_refl k)))
+    absurd (T_not (eqb (first_of ts) k) (first_of_lem (λ j. not (eqb j k)) ts a z) (subst (λ (j : ℕ). T (eqb j k)) (sym e) (eqb_refl k)))

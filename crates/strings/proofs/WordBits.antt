@@ -28,9 +28,9 @@ two_shifted t h = shl_exact {a = 2} 2 t 32 (lit< tt) (omega arith) ∙ sym (ap (
 
 module _ (s : List ℕ) (b : Bytes s) (n : length s ≡ 11) where
   -- what it has of its first byte
-  pub bits-first : (first t : ℕ) → first < 11 → t < 8 → get_or s first 0 % 2 ^ (t + 1) ≡ bits_in (value_of s) first t (first + 1)
+  pub bits_first : (first t : ℕ) → first < 11 → t < 8 → get_or s first 0 % 2 ^ (t + 1) ≡ bits_in (value_of s) first t (first + 1)
   unfolding bits_in
-  bits-first first t h k =
+  bits_first first t h k =
       let x = value_of s / 2 ^ (8 * (11 - (first + 1))) in
       let e : 8 ≡ (7 - t) + (t + 1) = omega arith in
       ap (λ (y : ℕ). y % 2 ^ (t + 1)) (sym (byte_at s first (11 - (first + 1)) b (omega arith)))
@@ -39,9 +39,9 @@ module _ (s : List ℕ) (b : Bytes s) (n : length s ≡ 11) where
       ∙ ap (λ (i : ℕ). x % 2 ^ i) (omega arith)
 
   -- one byte more
-  pub bits-more : (first t i : ℕ) → first + 1 ≤ i → i < 11 → bits_in (value_of s) first t i * 256 + get_or s i 0 ≡ bits_in (value_of s) first t (i + 1)
+  pub bits_more : (first t i : ℕ) → first + 1 ≤ i → i < 11 → bits_in (value_of s) first t i * 256 + get_or s i 0 ≡ bits_in (value_of s) first t (i + 1)
   unfolding bits_in
-  bits-more first t i l h =
+  bits_more first t i l h =
       let v = value_of s in
       let x = v / 2 ^ (8 * (11 - (i + 1))) in
       let a = 8 * (i - (first + 1)) + (t + 1) in
@@ -51,11 +51,11 @@ module _ (s : List ℕ) (b : Bytes s) (n : length s ≡ 11) where
       ∙ ap (λ (k : ℕ). x % 2 ^ k) (omega arith)
 
   -- and what it has of its last, above the r lowest
-  pub bits-last : (first t last r : ℕ) → first + 1 ≤ last → last < 11 → r < 8
+  pub bits_last : (first t last r : ℕ) → first + 1 ≤ last → last < 11 → r < 8
       → bits_in (value_of s) first t last * 2 ^ (8 - r) + get_or s last 0 / 2 ^ r
       ≡ value_of s / 2 ^ (8 * (10 - last) + r) % 2 ^ (8 * (last - (first + 1)) + (t + 1) + (8 - r))
   unfolding bits_in
-  bits-last first t last r l h k =
+  bits_last first t last r l h k =
       let v = value_of s in
       let x = v / 2 ^ (8 * (10 - last)) in
       let y = v / 2 ^ (8 * (10 - last) + r) in
@@ -90,9 +90,9 @@ bit_small b = omega arith
 module _ (s : List ℕ) (top low first last t r : ℕ) (l : 1 ≤ low) (o : low ≤ top + 1) (p : 8 * (10 - first) + t ≡ top + 2) (q : 8 * (10 - last) + r ≡ low + 2)
     (f : first ≤ 10) (g : last ≤ 10) (k : r < 8) where
   -- in one byte
-  pub word-one : first ≡ last → bits_in (value_of s) first t (first + 1) / 2 ^ r ≡ word_of (number_of s) top low
+  pub word_one : first ≡ last → bits_in (value_of s) first t (first + 1) / 2 ^ r ≡ word_of (number_of s) top low
   unfolding bits_in
-  word-one e =
+  word_one e =
       let v = value_of s in
       let x = v / 2 ^ (8 * (11 - (first + 1))) in
       let a : 8 * (first + 1 - (first + 1)) + (t + 1) ≡ (t + 1 - r) + r = omega arith in
@@ -106,5 +106,5 @@ module _ (s : List ℕ) (top low first last t r : ℕ) (l : 1 ≤ low) (o : low 
 
   pub word_more : Bytes s → length s ≡ 11 → first < last → bits_in (value_of s) first t last * 2 ^ (8 - r) + get_or s last 0 / 2 ^ r ≡ word_of (number_of s) top low
   word_more b n e =
-      bits-last s b n first t last r (omega arith) (omega arith) k
+      bits_last s b n first t last r (omega arith) (omega arith) k
       ∙ cut_is s top low (8 * (10 - last) + r) (8 * (last - (first + 1)) + (t + 1) + (8 - r)) l q (width_is e)

@@ -50,13 +50,13 @@ more : Summary → ℕ → Summary
 more s d = record { count = s.count + 1; oldest = older_of s.oldest d; newest = newer_of s.newest d }
 
 module _ (s : Summary) (e : Entry) where
-  line-blank : eqb e.day 0 ≡ true → with_line s e ≡ s
+  line_blank : eqb e.day 0 ≡ true → with_line s e ≡ s
   unfolding with_line
-  line-blank p = rw p
+  line_blank p = rw p
 
-  line-filled : eqb e.day 0 ≡ false → with_line s e ≡ more s e.day
+  line_filled : eqb e.day 0 ≡ false → with_line s e ≡ more s e.day
   unfolding with_line more
-  line-filled p = rw p
+  line_filled p = rw p
 
 more_swap : (s : Summary) (d f : ℕ) → (d ≡ 0 → ⊥) → (f ≡ 0 → ⊥) → more (more s d) f ≡ more (more s f) d
 unfolding more
@@ -67,14 +67,14 @@ lines_swap : (s : Summary) (e f : Entry) → with_line (with_line s e) f ≡ wit
 lines_swap s e f = by (eqb e.day 0) (eqb f.day 0) refl refl
   where
     by : (t u : Bool) → eqb e.day 0 ≡ t → eqb f.day 0 ≡ u → with_line (with_line s e) f ≡ with_line (with_line s f) e
-    by true u p q = ap (λ (x : Summary). with_line x f) (line-blank s e p) ∙ sym (line-blank (with_line s f) e p)
-    by false true p q = line-blank (with_line s e) f q ∙ sym (ap (λ (x : Summary). with_line x e) (line-blank s f q))
+    by true u p q = ap (λ (x : Summary). with_line x f) (line_blank s e p) ∙ sym (line_blank (with_line s f) e p)
+    by false true p q = line_blank (with_line s e) f q ∙ sym (ap (λ (x : Summary). with_line x e) (line_blank s f q))
     by false false p q =
-        ap (λ (x : Summary). with_line x f) (line-filled s e p)
-        ∙ line-filled (more s e.day) f q
+        ap (λ (x : Summary). with_line x f) (line_filled s e p)
+        ∙ line_filled (more s e.day) f q
         ∙ more_swap s e.day f.day (eqb-false e.day 0 p) (eqb-false f.day 0 q)
-        ∙ sym (line-filled (more s f.day) e p)
-        ∙ sym (ap (λ (x : Summary). with_line x e) (line-filled s f q))
+        ∙ sym (line_filled (more s f.day) e p)
+        ∙ sym (ap (λ (x : Summary). with_line x e) (line_filled s f q))
 
 -- a line at the front can as well be the last
 from_last : (s : Summary) (e : Entry) (es : List Entry) → walk_from (with_line s e) es ≡ with_line (walk_from s es) e
@@ -153,19 +153,19 @@ kept_none =
 
 module _ (e : Entry) (es : List Entry) where
   -- what lines hold they hold with one more before them
-  held-behind : (d : ℕ) → Holds es d → Holds (e ∷ es) d
-  held-behind d h = record { line = suc h.line; there = omega (arith, h.there); day = h.day; entry = h.entry }
+  held_behind : (d : ℕ) → Holds es d → Holds (e ∷ es) d
+  held_behind d h = record { line = suc h.line; there = omega (arith, h.there); day = h.day; entry = h.entry }
 
-  held_first : (e.day ≡ 0 → ⊥) → Holds (e ∷ es) e.day
-  held_first n = record { line = 0; there = omega arith; day = refl; entry = n }
+  held_first_lem : (e.day ≡ 0 → ⊥) → Holds (e ∷ es) e.day
+  held_first_lem n = record { line = 0; there = omega arith; day = refl; entry = n }
 
   -- and what they hold with one more is the day of that one, or they hold it
   data Where (d : ℕ) : Type 0 where
     First : e.day ≡ d → Where d
     Behind : Holds es d → Where d
 
-  where-held : (d : ℕ) → Holds (e ∷ es) d → Where d
-  where-held d h = by h.line h.there h.day
+  where_held : (d : ℕ) → Holds (e ∷ es) d → Where d
+  where_held d h = by h.line h.there h.day
     where
       by : (k : ℕ) → k < length (e ∷ es) → (get_or (e ∷ es) k blank).day ≡ d → Where d
       by zero l q = First q
@@ -175,17 +175,17 @@ kept_blank : (e : Entry) (es : List Entry) (s : Summary) → eqb e.day 0 ≡ tru
 kept_blank e es s p k =
     record {
       count = rw p k.count;
-      oldest_there = λ n. held-behind e es s.oldest (k.oldest_there n);
+      oldest_there = λ n. held_behind e es s.oldest (k.oldest_there n);
       oldest_met = λ d h. k.oldest_met d (behind d h);
       oldest_first = λ d h. k.oldest_first d (behind d h);
-      newest_there = λ n. held-behind e es s.newest (k.newest_there n);
+      newest_there = λ n. held_behind e es s.newest (k.newest_there n);
       newest_last = λ d h. k.newest_last d (behind d h);
       none_counted = k.none_counted;
       none_older = k.none_older;
     }
   where
     behind : (d : ℕ) → Holds (e ∷ es) d → Holds es d
-    behind d h = elim (where-held e es d h) [ First q ↦ absurd (h.entry (sym q ∙ eqb-true e.day 0 p)) | Behind b ↦ b ]
+    behind d h = elim (where_held e es d h) [ First q ↦ absurd (h.entry (sym q ∙ eqb-true e.day 0 p)) | Behind b ↦ b ]
 
 -- of two days the new one is chosen, or the one before it
 data Older (a d : ℕ) : Type 0 where
@@ -215,8 +215,8 @@ newer a d = by (ltb a d) refl
     by false p = OldNewer (rw p) (ltb-false a d p)
 
 module _ (e : Entry) (es : List Entry) (s : Summary) (k : Kept es s) (p : eqb e.day 0 ≡ false) where
-  day-there : e.day ≡ 0 → ⊥
-  day-there = eqb-false e.day 0 p
+  day_there : e.day ≡ 0 → ⊥
+  day_there = eqb-false e.day 0 p
 
   abbrev oldest' : ℕ
   oldest' = older_of s.oldest e.day
@@ -227,12 +227,12 @@ module _ (e : Entry) (es : List Entry) (s : Summary) (k : Kept es s) (p : eqb e.
   oldest_there : Holds (e ∷ es) oldest'
   oldest_there =
       elim (older s.oldest e.day) [
-        | NewOlder q l ↦ subst (Holds (e ∷ es)) (sym q) (held_first e es day-there)
-        | OldOlder q n l ↦ subst (Holds (e ∷ es)) (sym q) (held-behind e es s.oldest (k.oldest_there n))
+        | NewOlder q l ↦ subst (Holds (e ∷ es)) (sym q) (held_first_lem e es day_there)
+        | OldOlder q n l ↦ subst (Holds (e ∷ es)) (sym q) (held_behind e es s.oldest (k.oldest_there n))
       ]
 
   oldest_first : (d : ℕ) → Holds (e ∷ es) d → oldest' ≤ d
-  oldest_first d h = by (older s.oldest e.day) (where-held e es d h)
+  oldest_first d h = by (older s.oldest e.day) (where_held e es d h)
     where
       by : Older s.oldest e.day → Where e es d → oldest' ≤ d
       by (NewOlder q l) (First r) = omega arith
@@ -243,12 +243,12 @@ module _ (e : Entry) (es : List Entry) (s : Summary) (k : Kept es s) (p : eqb e.
   newest_there : Holds (e ∷ es) newest'
   newest_there =
       elim (newer s.newest e.day) [
-        | NewNewer q l ↦ subst (Holds (e ∷ es)) (sym q) (held_first e es day-there)
-        | OldNewer q l ↦ subst (Holds (e ∷ es)) (sym q) (held-behind e es s.newest (k.newest_there (λ z. day-there (omega arith))))
+        | NewNewer q l ↦ subst (Holds (e ∷ es)) (sym q) (held_first_lem e es day_there)
+        | OldNewer q l ↦ subst (Holds (e ∷ es)) (sym q) (held_behind e es s.newest (k.newest_there (λ z. day_there (omega arith))))
       ]
 
   newest_last : (d : ℕ) → Holds (e ∷ es) d → d ≤ newest'
-  newest_last d h = by (newer s.newest e.day) (where-held e es d h)
+  newest_last d h = by (newer s.newest e.day) (where_held e es d h)
     where
       by : Newer s.newest e.day → Where e es d → d ≤ newest'
       by (NewNewer q l) (First r) = omega arith
@@ -256,9 +256,9 @@ module _ (e : Entry) (es : List Entry) (s : Summary) (k : Kept es s) (p : eqb e.
       by (OldNewer q l) (First r) = omega arith
       by (OldNewer q l) (Behind b) = omega (arith, k.newest_last d b)
 
-  kept-filled : Kept (e ∷ es) (more s e.day)
+  kept_filled : Kept (e ∷ es) (more s e.day)
   unfolding more
-  kept-filled =
+  kept_filled =
       record {
         count = rw p (omega (arith, k.count));
         oldest_there = λ n. oldest_there;
@@ -274,8 +274,8 @@ kept_line : (e : Entry) (es : List Entry) (s : Summary) → Kept es s → Kept (
 kept_line e es s k = by (eqb e.day 0) refl
   where
     by : (t : Bool) → eqb e.day 0 ≡ t → Kept (e ∷ es) (with_line s e)
-    by true p = subst (Kept (e ∷ es)) (sym (line-blank s e p)) (kept_blank e es s p k)
-    by false p = subst (Kept (e ∷ es)) (sym (line-filled s e p)) (kept-filled e es s k p)
+    by true p = subst (Kept (e ∷ es)) (sym (line_blank s e p)) (kept_blank e es s p k)
+    by false p = subst (Kept (e ∷ es)) (sym (line_filled s e p)) (kept_filled e es s k p)
 
 kept : (es : List Entry) → Kept es (walk_of es)
 kept [] = subst (Kept []) (sym walk_none) kept_none

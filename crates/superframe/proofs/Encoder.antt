@@ -20,7 +20,7 @@ use Rattle.layout.specs.Layout.{layout, of_kind}
 use Rattle.words.specs.Values.{first_bad}
 use Rattle.words.specs.Calls.{string_of, Writes}
 use Rattle.words.proofs.Fits.{is_true}
-use Rattle.words.proofs.RoundTrips.{write-once, writes, is_written}
+use Rattle.words.proofs.RoundTrips.{write_once, writes, is_written}
 use Rattle.superframe.specs.declared.Sky.{Sky}
 use Rattle.superframe.specs.Sky.{record_in, frame_at, string_number, sky_string}
 use Rattle.superframe.specs.Refused.{is_number, words_bad, string_bad, is_refused}
@@ -34,8 +34,8 @@ module _ (sky : Sky) where
   unfolding record_in
   all_kinds = tt
 
-  pub of-its-kind : (g m : ℕ) → g < 5 → 1 ≤ m → m ≤ 15 → of_kind (kind_of (record_in sky g m)) m ≡ true
-  of-its-kind g m l a b =
+  pub of_its_kind : (g m : ℕ) → g < 5 → 1 ≤ m → m ≤ 15 → of_kind (kind_of (record_in sky g m)) m ≡ true
+  of_its_kind g m l a b =
       let e : suc (m - 1) ≡ m = omega arith in
       subst (λ (n : ℕ). of_kind (kind_of (record_in sky g n)) n ≡ true) e
       (is_true _ (below_at 15 (kind_test g) (below_at 5 (λ g. below 15 (kind_test g)) all_kinds g l) (m - 1) (omega arith)))
@@ -45,42 +45,42 @@ module _ (m : ℕ) (r : Record) (out : List ℕ) (long : length out ≡ 11) (k :
   refused_is : (q : Refusal) (out' : List ℕ) → Writes m r out (Refused q) out' → eqb (first_bad (layout (kind_of r)) (list_of r)) 0 ≡ false
   refused_is q out' a =
       ne_eqb _ 0
-      (λ e. let w = (write-once m r out (Refused q) Done out' _ a (writes m r out (bytes_of_string (string_of m r)) (record { room = long; place = k; range = e; output = refl }))).0 in
+      (λ e. let w = (write_once m r out (Refused q) Done out' _ a (writes m r out (bytes_of_string (string_of m r)) (record { room = long; place = k; range = e; output = refl }))).0 in
       let z : ◌≡◌ {A = ℕ} 0 1 = cc in omega arith)
 
-  pub refused-by : (w : Written) (out' : List ℕ) → Writes m r out w out' → not (eqb (first_bad (layout (kind_of r)) (list_of r)) 0) ≡ is_refused w
-  refused-by Done out' a = ap not (eq-eqb _ 0 (is_written m r out out' a).range)
-  refused-by (Refused q) out' a = ap not (refused_is q out' a)
+  pub refused_by : (w : Written) (out' : List ℕ) → Writes m r out w out' → not (eqb (first_bad (layout (kind_of r)) (list_of r)) 0) ≡ is_refused w
+  refused_by Done out' a = ap not (eq-eqb _ 0 (is_written m r out out' a).range)
+  refused_by (Refused q) out' a = ap not (refused_is q out' a)
 
   pub written_as : (w : Written) (out' : List ℕ) → first_bad (layout (kind_of r)) (list_of r) ≡ 0 → Writes m r out w out' → out' ≡ bytes_of_string (string_of m r)
-  written_as w out' e a = (write-once m r out w Done out' _ a (writes m r out (bytes_of_string (string_of m r)) (record { room = long; place = k; range = e; output = refl }))).1
+  written_as w out' e a = (write_once m r out w Done out' _ a (writes m r out (bytes_of_string (string_of m r)) (record { room = long; place = k; range = e; output = refl }))).1
 
 -- ---- string i, of the words r
 module _ (sky : Sky) (i : ℕ) (l : 1 ≤ i) (u : i ≤ 75) (r : Record) (is : r ≡ record_in sky (frame_at i) (string_number i)) where
   kind_at : of_kind (kind_of r) (string_number i) ≡ true
-  kind_at = ap (λ (x : Record). of_kind (kind_of x) (string_number i)) is ∙ of-its-kind sky (frame_at i) (string_number i) (omega arith) (omega arith) (omega arith)
+  kind_at = ap (λ (x : Record). of_kind (kind_of x) (string_number i)) is ∙ of_its_kind sky (frame_at i) (string_number i) (omega arith) (omega arith) (omega arith)
 
   -- whether it is refused
-  pub bad-is : (out out' : List ℕ) (w : Written) → length out ≡ 11 → Writes (string_number i) r out w out'
+  pub bad_is : (out out' : List ℕ) (w : Written) → length out ≡ 11 → Writes (string_number i) r out w out'
       → string_bad sky i ≡ (is_refused w || (eqb i 5 && is_number sky.five.n4 0))
   unfolding string_bad
-  bad-is out out' w long a =
+  bad_is out out' w long a =
       ap (λ (b : Bool). b || (eqb i 5 && is_number sky.five.n4 0))
-      (ap (λ (x : Record). not (eqb (first_bad (layout (kind_of x)) (list_of x)) 0)) (sym is) ∙ refused-by (string_number i) r out long kind_at w out' a)
+      (ap (λ (x : Record). not (eqb (first_bad (layout (kind_of x)) (list_of x)) 0)) (sym is) ∙ refused_by (string_number i) r out long kind_at w out' a)
 
-  or-first : (a b : Bool) → (a || b) ≡ false → a ≡ false
-  or-first true b e = absurd (true≢false e)
-  or-first false b e = refl
+  or_first : (a b : Bool) → (a || b) ≡ false → a ≡ false
+  or_first true b e = absurd (true≢false e)
+  or_first false b e = refl
 
-  pub words-good : string_bad sky i ≡ false → first_bad (layout (kind_of r)) (list_of r) ≡ 0
+  pub words_good : string_bad sky i ≡ false → first_bad (layout (kind_of r)) (list_of r) ≡ 0
   unfolding string_bad
-  words-good e =
+  words_good e =
       ap (λ (x : Record). first_bad (layout (kind_of x)) (list_of x)) is
-      ∙ eqb-true _ 0 (not-false _ (or-first (words_bad sky (frame_at i) (string_number i)) (eqb i 5 && is_number sky.five.n4 0) e))
+      ∙ eqb-true _ 0 (not-false _ (or_first (words_bad sky (frame_at i) (string_number i)) (eqb i 5 && is_number sky.five.n4 0) e))
 
   -- what is written where it is not
   pub string_is : (out out' : List ℕ) (w : Written) → length out ≡ 11 → Writes (string_number i) r out w out' → string_bad sky i ≡ false
       → out' ≡ bytes_of_string (sky_string sky i)
   unfolding sky_string
   string_is out out' w long a e =
-      written_as (string_number i) r out long kind_at w out' (words-good e) a ∙ ap (λ (x : Record). bytes_of_string (string_of (string_number i) x)) is
+      written_as (string_number i) r out long kind_at w out' (words_good e) a ∙ ap (λ (x : Record). bytes_of_string (string_of (string_number i) x)) is

@@ -39,17 +39,17 @@ module _ (sky : Sky) where
   unfolding record_in
   two_is m e = rw e
 
-  pub three-is : (m : ℕ) → m ≡ 3 → Three sky.words.three ≡ record_in sky 0 m
+  pub three_is : (m : ℕ) → m ≡ 3 → Three sky.words.three ≡ record_in sky 0 m
   unfolding record_in
-  three-is m e = rw e
+  three_is m e = rw e
 
   pub four_is : (m : ℕ) → m ≡ 4 → Four sky.words.four ≡ record_in sky 0 m
   unfolding record_in
   four_is m e = rw e
 
-  pub five-is : (m : ℕ) → m ≡ 5 → Five sky.five ≡ record_in sky 0 m
+  pub five_is : (m : ℕ) → m ≡ 5 → Five sky.five ≡ record_in sky 0 m
   unfolding record_in
-  five-is m e = rw e
+  five_is m e = rw e
 
   pub alike : (g m : ℕ) → 1 ≤ m → m ≤ 5 → record_in sky g m ≡ record_in sky 0 m
   unfolding record_in
@@ -62,36 +62,36 @@ and_none true false h = refl
 and_none false b h = refl
 
 module _ (sky : Sky) (g m : ℕ) (past : 5 < m) where
-  abbrev last-even : Record
-  last-even = Fourteen sky.fourteen
+  abbrev last_even : Record
+  last_even = Fourteen sky.fourteen
 
-  abbrev last-odd : Record
-  last-odd = Odd (with_l sky.five.l zero_odd)
+  abbrev last_odd : Record
+  last_odd = Odd (with_l sky.five.l zero_odd)
 
-  past-five : record_in sky g m ≡ pick (eqb m 14 && eqb g 4) last-even (pick (eqb m 15 && eqb g 4) last-odd (almanac_in sky g m))
+  past_five : record_in sky g m ≡ pick (eqb m 14 && eqb g 4) last_even (pick (eqb m 15 && eqb g 4) last_odd (almanac_in sky g m))
   unfolding record_in
-  past-five =
+  past_five =
       rw (ne_eqb m 1 (λ q. omega arith), ne_eqb m 2 (λ q. omega arith), ne_eqb m 3 (λ q. omega arith), ne_eqb m 4 (λ q. omega arith), ne_eqb m 5 (λ q. omega arith))
 
   -- strings 14 and 15 of the last frame
-  last-by : (t : Bool) → eqb m 14 ≡ t → eqb g 4 ≡ true → (t ≡ false → eqb m 15 ≡ true)
-      → pick t last-even last-odd ≡ pick (t && eqb g 4) last-even (pick (eqb m 15 && eqb g 4) last-odd (almanac_in sky g m))
-  last-by true q e f = rw e
-  last-by false q e f = rw (e, f refl)
+  last_by : (t : Bool) → eqb m 14 ≡ t → eqb g 4 ≡ true → (t ≡ false → eqb m 15 ≡ true)
+      → pick t last_even last_odd ≡ pick (t && eqb g 4) last_even (pick (eqb m 15 && eqb g 4) last_odd (almanac_in sky g m))
+  last_by true q e f = rw e
+  last_by false q e f = rw (e, f refl)
 
-  pub last-is : g < 5 → m ≤ 15 → 23 < 5 * g + (m - 6) / 2 → pick (eqb m 14) last-even last-odd ≡ record_in sky g m
-  last-is l u h =
-      last-by (eqb m 14) refl (eq-eqb g 4 (omega arith)) (λ q. eq-eqb m 15 (omega (arith, eqb-false m 14 q))) ∙ sym past-five
+  pub last_is : g < 5 → m ≤ 15 → 23 < 5 * g + (m - 6) / 2 → pick (eqb m 14) last_even last_odd ≡ record_in sky g m
+  last_is l u h =
+      last_by (eqb m 14) refl (eq-eqb g 4 (omega arith)) (λ q. eq-eqb m 15 (omega (arith, eqb-false m 14 q))) ∙ sym past_five
 
   -- and of a pair
   abbrev entry : ℕ → AlmanacWords
   entry i = get_or sky.entries i (record { even = zero_even; odd = zero_odd })
 
-  half-by : (t : Bool) → eqb (m % 2) 0 ≡ t
+  half_by : (t : Bool) → eqb (m % 2) 0 ≡ t
       → pick t (Even (entry (5 * g + (m - 6) / 2)).even) (Odd (with_l sky.five.l (entry (5 * g + (m - 6) / 2)).odd))
       ≡ pick t (Even (entry_at sky (slot_of_pair g m)).even) (Odd (with_l sky.five.l (entry_at sky (slot_of_pair g (m - 1))).odd))
-  half-by true q = let e : 5 * g + (m - 6) / 2 ≡ slot_of_pair g m - 1 = omega arith in ap (λ (i : ℕ). Even (entry i).even) e
-  half-by false q =
+  half_by true q = let e : 5 * g + (m - 6) / 2 ≡ slot_of_pair g m - 1 = omega arith in ap (λ (i : ℕ). Even (entry i).even) e
+  half_by false q =
       let e : 5 * g + (m - 6) / 2 ≡ slot_of_pair g (m - 1) - 1 = omega (arith, eqb-false (m % 2) 0 q) in
       ap (λ (i : ℕ). Odd (with_l sky.five.l (entry i).odd)) e
 
@@ -100,33 +100,33 @@ module _ (sky : Sky) (g m : ℕ) (past : 5 < m) where
   half_is h =
       let a = and_none (eqb m 14) (eqb g 4) (λ p q. omega (arith, eqb-true m 14 p, eqb-true g 4 q)) in
       let b = and_none (eqb m 15) (eqb g 4) (λ p q. omega (arith, eqb-true m 15 p, eqb-true g 4 q)) in
-      half-by (eqb (m % 2) 0) refl ∙ sym (past-five ∙ rw (a, b))
+      half_by (eqb (m % 2) 0) refl ∙ sym (past_five ∙ rw (a, b))
 
 -- ---- WHAT STANDS WHERE
 module _ (sky : Sky) where
-  record-even : (g p : ℕ) → is_one_of pairs p ≡ true → (p ≡ 14 → g < 4) → record_in sky g p ≡ Even (entry_at sky (slot_of_pair g p)).even
+  record_even : (g p : ℕ) → is_one_of pairs p ≡ true → (p ≡ 14 → g < 4) → record_in sky g p ≡ Even (entry_at sky (slot_of_pair g p)).even
   unfolding record_in
-  record-even g = pair_cases (λ p. (p ≡ 14 → g < 4) → record_in sky g p ≡ Even (entry_at sky (slot_of_pair g p)).even)
+  record_even g = pair_cases (λ p. (p ≡ 14 → g < 4) → record_in sky g p ≡ Even (entry_at sky (slot_of_pair g p)).even)
       (λ h. refl) (λ h. refl) (λ h. refl) (λ h. refl) (λ h. let k : g < 4 = h refl in rw (ne_eqb g 4 (λ q. omega arith)))
 
-  record-odd : (g p : ℕ) → is_one_of pairs p ≡ true → (p ≡ 14 → g < 4) → record_in sky g (p + 1) ≡ Odd (with_l sky.five.l (entry_at sky (slot_of_pair g p)).odd)
+  record_odd : (g p : ℕ) → is_one_of pairs p ≡ true → (p ≡ 14 → g < 4) → record_in sky g (p + 1) ≡ Odd (with_l sky.five.l (entry_at sky (slot_of_pair g p)).odd)
   unfolding record_in
-  record-odd g = pair_cases (λ p. (p ≡ 14 → g < 4) → record_in sky g (p + 1) ≡ Odd (with_l sky.five.l (entry_at sky (slot_of_pair g p)).odd))
+  record_odd g = pair_cases (λ p. (p ≡ 14 → g < 4) → record_in sky g (p + 1) ≡ Odd (with_l sky.five.l (entry_at sky (slot_of_pair g p)).odd))
       (λ h. refl) (λ h. refl) (λ h. refl) (λ h. refl) (λ h. let k : g < 4 = h refl in rw (ne_eqb g 4 (λ q. omega arith)))
 
-  last-two : (record_in sky 4 14 ≡ Fourteen sky.fourteen) × (record_in sky 4 15 ≡ Odd (with_l sky.five.l zero_odd))
+  last_two : (record_in sky 4 14 ≡ Fourteen sky.fourteen) × (record_in sky 4 15 ≡ Odd (with_l sky.five.l zero_odd))
   unfolding record_in
-  last-two = (refl, refl)
+  last_two = (refl, refl)
 
-  slot-even : (k : ℕ) → 1 ≤ k → k ≤ 24 → record_in sky (frame_of_slot k) (pair_of_slot k) ≡ Even (entry_at sky k).even
-  slot-even k a b =
+  slot_even : (k : ℕ) → 1 ≤ k → k ≤ 24 → record_in sky (frame_of_slot k) (pair_of_slot k) ≡ Even (entry_at sky k).even
+  slot_even k a b =
       let back : slot_of_pair (frame_of_slot k) (pair_of_slot k) ≡ k = omega arith in
-      record-even (frame_of_slot k) (pair_of_slot k) (pair_named k) (λ q. omega arith) ∙ ap (λ (j : ℕ). Even (entry_at sky j).even) back
+      record_even (frame_of_slot k) (pair_of_slot k) (pair_named k) (λ q. omega arith) ∙ ap (λ (j : ℕ). Even (entry_at sky j).even) back
 
-  slot-odd : (k : ℕ) → 1 ≤ k → k ≤ 24 → record_in sky (frame_of_slot k) (pair_of_slot k + 1) ≡ Odd (with_l sky.five.l (entry_at sky k).odd)
-  slot-odd k a b =
+  slot_odd : (k : ℕ) → 1 ≤ k → k ≤ 24 → record_in sky (frame_of_slot k) (pair_of_slot k + 1) ≡ Odd (with_l sky.five.l (entry_at sky k).odd)
+  slot_odd k a b =
       let back : slot_of_pair (frame_of_slot k) (pair_of_slot k) ≡ k = omega arith in
-      record-odd (frame_of_slot k) (pair_of_slot k) (pair_named k) (λ q. omega arith) ∙ ap (λ (j : ℕ). Odd (with_l sky.five.l (entry_at sky j).odd)) back
+      record_odd (frame_of_slot k) (pair_of_slot k) (pair_named k) (λ q. omega arith) ∙ ap (λ (j : ℕ). Odd (with_l sky.five.l (entry_at sky j).odd)) back
 
   pub places : Places sky
-  places = record { alike = alike sky; even = slot-even; odd = slot-odd; fourteen = last-two.0; fifteen = last-two.1 }
+  places = record { alike = alike sky; even = slot_even; odd = slot_odd; fourteen = last_two.0; fifteen = last_two.1 }

@@ -17,13 +17,13 @@ use Rattle.tallies.proofs.Whose.{Each, each, cause_after}
 
 -- ---- one more: a step below the limit, none there
 module _ (n : ℕ) where
-  pub more-below : n < limit → one_more n ≡ n + 1
+  pub more_below : n < limit → one_more n ≡ n + 1
   unfolding one_more
-  more-below h = omega (h, arith)
+  more_below h = omega (h, arith)
 
-  pub more-there : limit ≤ n → one_more n ≡ limit
+  pub more_there : limit ≤ n → one_more n ≡ limit
   unfolding one_more
-  more-there h = omega (h, arith)
+  more_there h = omega (h, arith)
 
 -- what one more makes of a tally that is the lesser of the limit and a count
 more_of_least : (n : ℕ) → one_more (min limit n) ≡ min limit (n + 1)
@@ -37,7 +37,7 @@ more_of_least n = by (ltb n limit) refl
     by false p =
         let h : limit ≤ n = ltb-false n limit p in
         let g : limit ≤ n + 1 = omega (h, arith) in
-        ap one_more (min-eq_left h) ∙ more-there limit (omega arith) ∙ sym (min-eq_left g)
+        ap one_more (min-eq_left h) ∙ more_there limit (omega arith) ∙ sym (min-eq_left g)
 
 more_if : (b : Bool) (n : ℕ) → one_more_if b (min limit n) ≡ min limit (plus_if b n)
 more_if true n = more_of_least n

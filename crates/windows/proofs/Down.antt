@@ -15,12 +15,12 @@ pub record Moved (window₀ : List ℕ) (from : ℕ) (window : List ℕ) (i : �
   pub ahead : (k : ℕ) → i ≤ k → get_or window (from + k) 0 ≡ get_or window₀ (from + k) 0
 
 module _ {window₀ : List ℕ} {from : ℕ} where
-  pub none-moved : Moved window₀ from window₀ 0
-  none-moved = record { long = refl; front = refl; ahead = λ k h. refl }
+  pub none_moved : Moved window₀ from window₀ 0
+  none_moved = record { long = refl; front = refl; ahead = λ k h. refl }
 
-  pub one-moved : {window : List ℕ} {i : ℕ} → Moved window₀ from window i → from + i < length window₀
+  pub one_moved : {window : List ℕ} {i : ℕ} → Moved window₀ from window i → from + i < length window₀
       → Moved window₀ from (set window i (get_or window (from + i) 0)) (i + 1)
-  one-moved {window} {i} m h =
+  one_moved {window} {i} m h =
       let x = get_or window (from + i) 0 in
       let l : i < length window = omega (arith, m.long) in
       let d : i < length (drop from window₀) = omega (arith, length-drop from window₀) in

@@ -29,8 +29,8 @@ module _ {file : List ℕ} {first : ℕ} {last : Bool} {window : List ℕ} (v : 
   abbrev behind : List ℕ
   behind = drop first file
 
-  behind-bytes : Bytes behind
-  behind-bytes k = rw (get_or-drop first file k 0) (v.bytes (first + k))
+  behind_bytes : Bytes behind
+  behind_bytes k = rw (get_or-drop first file k 0) (v.bytes (first + k))
 
   -- ---- whatever is seen so near, and only of what stands from the place on
   module _ {A : Type 0} (look : List ℕ → ℕ → A)
@@ -43,17 +43,17 @@ module _ {file : List ℕ} {first : ℕ} {last : Bool} {window : List ℕ} (v : 
     by_last false e i h =
         let k : length window ≡ i + (length window - i) = omega arith in
         ap (λ (l : List ℕ). look l i) (v.here ∙ ap (λ (n : ℕ). take n behind) k)
-        ∙ is-near behind i (length window - i) behind-bytes (omega arith) ∙ onward i
+        ∙ is-near behind i (length window - i) behind_bytes (omega arith) ∙ onward i
 
     pub held : (i : ℕ) → i < goal_of last (length window) → look window i ≡ look file (first + i)
     held i h = by_last last refl i h
 
-  pub size-held : (i : ℕ) → i < goal_of last (length window) → size_at window i ≡ size_at file (first + i)
-  size-held = held size_at (λ l at n b h. near-size l at n b (omega arith)) (λ i. ap size_in (drop-drop i first file))
+  pub size_held : (i : ℕ) → i < goal_of last (length window) → size_at window i ≡ size_at file (first + i)
+  size_held = held size_at (λ l at n b h. near-size l at n b (omega arith)) (λ i. ap size_in (drop-drop i first file))
 
-  pub resumes-held : (i : ℕ) → i < goal_of last (length window) → resumes window i ≡ resumes file (first + i)
+  pub resumes_held : (i : ℕ) → i < goal_of last (length window) → resumes window i ≡ resumes file (first + i)
   unfolding resumes
-  resumes-held = held resumes near (λ i. ap (λ (l : List ℕ). two_follow l || one_ends l) (drop-drop i first file))
+  resumes_held = held resumes near (λ i. ap (λ (l : List ℕ). two_follow l || one_ends l) (drop-drop i first file))
 
   -- ---- what is shown
   part_held : (i n : ℕ) → i + n ≤ length window → take n (drop i window) ≡ take n (drop (first + i) file)
@@ -64,15 +64,15 @@ module _ {file : List ℕ} {first : ℕ} {last : Bool} {window : List ℕ} (v : 
       ∙ take-take n (length window - i) (drop i behind) (omega arith)
       ∙ ap (take n) (drop-drop i first file)
 
-  byte-held : (i : ℕ) → i < length window → get_or window i 0 ≡ get_or file (first + i) 0
-  byte-held i h = ap (λ (l : List ℕ). get_or l i 0) v.here ∙ get_or-take (length window) behind i 0 h ∙ get_or-drop first file i 0
+  byte_held : (i : ℕ) → i < length window → get_or window i 0 ≡ get_or file (first + i) 0
+  byte_held i h = ap (λ (l : List ℕ). get_or l i 0) v.here ∙ get_or-take (length window) behind i 0 h ∙ get_or-drop first file i 0
 
-  pub kept-held : (wanted : Wanted) (i n : ℕ) → 3 ≤ n → i + n ≤ length window → shown_of wanted window (Kept i n) ≡ shown_of wanted file (Kept (first + i) n)
-  kept-held Fields i n l h = part_held i n h
-  kept-held Stretches i n l h = refl
-  kept-held Records i n l h =
+  pub kept_held : (wanted : Wanted) (i n : ℕ) → 3 ≤ n → i + n ≤ length window → shown_of wanted window (Kept i n) ≡ shown_of wanted file (Kept (first + i) n)
+  kept_held Fields i n l h = part_held i n h
+  kept_held Stretches i n l h = refl
+  kept_held Records i n l h =
       let e : first + (i + 3) ≡ first + i + 3 = omega arith in
-      ap₂ (λ (b : ℕ) (x : List ℕ). pick (eqb b 1) x []) (byte-held i (omega arith))
+      ap₂ (λ (b : ℕ) (x : List ℕ). pick (eqb b 1) x []) (byte_held i (omega arith))
       (part_held (i + 3) (n - 3) (omega arith) ∙ ap (λ (k : ℕ). take (n - 3) (drop k file)) e)
 
 pub skipped_held : (wanted : Wanted) (file : List ℕ) (first count : ℕ) → shown_of wanted [] (Skipped first count) ≡ shown_of wanted file (Skipped first count)

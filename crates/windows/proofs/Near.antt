@@ -13,7 +13,7 @@ use Rattle.strings.specs.Number.{Bytes}
 use Rattle.fields.specs.Fields.{size_at}
 use Rattle.fields.proofs.Near.{size_small, near as near-size}
 use Rattle.salvage.specs.Items.{resumes}
-use Rattle.salvage.proofs.Places.{not_zero, resumes-none, resumes-next}
+use Rattle.salvage.proofs.Places.{not_zero, resumes_none, resumes_next}
 use Rattle.windows.specs.Window.{longest}
 
 -- a file that goes on behind the cut
@@ -24,8 +24,8 @@ module _ (file : List ℕ) (at n : ℕ) (b : Bytes file) (h : 2 * longest ≤ n)
   abbrev size : ℕ
   size = size_at file at
 
-  cut-long : length cut ≡ at + n
-  cut-long = length-take-le (at + n) file (omega arith)
+  cut_long : length cut ≡ at + n
+  cut_long = length-take-le (at + n) file (omega arith)
 
   -- the first field, and the one behind it, which is as near
   first : size_at cut at ≡ size
@@ -39,13 +39,13 @@ module _ (file : List ℕ) (at n : ℕ) (b : Bytes file) (h : 2 * longest ≤ n)
   by_size : (t : Bool) → eqb size 0 ≡ t → resumes cut at ≡ resumes file at
   by_size true e =
       let z : size ≡ 0 = eqb-true size 0 e in
-      sym (resumes-none cut at (first ∙ z)) ∙ resumes-none file at z
+      sym (resumes_none cut at (first ∙ z)) ∙ resumes_none file at z
   by_size false e =
       let z = eqb-false size 0 e in
       let s : size ≤ longest = size_small file at b (not_zero size z) in
-      sym (resumes-next cut at (λ q. z (sym first ∙ q)) (omega (arith, first, cut-long)))
+      sym (resumes_next cut at (λ q. z (sym first ∙ q)) (omega (arith, first, cut_long)))
       ∙ ap (λ (k : ℕ). not (eqb k 0)) (ap (λ (k : ℕ). size_at cut (at + k)) first ∙ second s)
-      ∙ resumes-next file at z (omega arith)
+      ∙ resumes_next file at z (omega arith)
 
 pub near : (file : List ℕ) (at n : ℕ) → Bytes file → 2 * longest ≤ n → resumes (take (at + n) file) at ≡ resumes file at
 near file at n b h = by (leb (length file) (at + n)) refl

@@ -39,8 +39,8 @@ module _ (window : List ℕ) (first : ℕ) (last : Bool) (b : Bytes window) wher
       within-it : k < first → get_or some k 0 < 256
       within-it h = rw (get_or-append before window 0 k (omega (arith, long)), get_or-replicate {A = ℕ} first k 0 0 h) (omega arith)
 
-  there-is : Window some first last window
-  there-is =
+  there_is : Window some first last window
+  there_is =
       let d : drop first some ≡ window = ap (λ (k : ℕ). drop k some) (sym long) ∙ drop-append_seam before window in
       record {
         bytes = some_bytes;
@@ -55,10 +55,10 @@ module _ (wanted : Wanted) (window : List ℕ) (last : Bool) (first : ℕ) (stan
   abbrev file : List ℕ
   file = some window first last b
 
-  told_same : (x.works.tells file (there-is window first last b)).told ≡ (y.works.tells file (there-is window first last b)).told
+  told_same : (x.works.tells file (there_is window first last b)).told ≡ (y.works.tells file (there_is window first last b)).told
   told_same =
-      let t = x.works.tells file (there-is window first last b) in
-      let u = y.works.tells file (there-is window first last b) in
+      let t = x.works.tells file (there_is window first last b) in
+      let u = y.works.tells file (there_is window first last b) in
       let e : left_at file (first + q.passed) q.stands ≡ left_at file (first + r.passed) r.stands =
       ap₂ (λ (n : ℕ) (z : Stands). left_at file (first + n) z) (sym p) (sym s)
       in
@@ -67,8 +67,8 @@ module _ (wanted : Wanted) (window : List ℕ) (last : Bool) (first : ℕ) (stan
 
   text_same : take r.written out' ≡ take q.written out''
   text_same =
-      let t = x.works.tells file (there-is window first last b) in
-      let u = y.works.tells file (there-is window first last b) in
+      let t = x.works.tells file (there_is window first last b) in
+      let u = y.works.tells file (there_is window first last b) in
       t.shows ∙ ap (shown wanted file) told_same ∙ sym u.shows
 
   written_same : r.written ≡ q.written

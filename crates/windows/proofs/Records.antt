@@ -16,7 +16,7 @@ use Rattle.fields.specs.Block.{Call, offer_of, reset_of, call_in}
 use Rattle.fields.proofs.Whole.{Good, good_parts, good_size, size_is}
 use Rattle.salvage.specs.Items.{Item, Kept, items_of}
 use Rattle.salvage.specs.Laws.{calls_kept}
-use Rattle.salvage.proofs.Items.{all-ind}
+use Rattle.salvage.proofs.Items.{all_ind}
 use Rattle.windows.specs.declared.Wanted.TheVariants.{Records}
 use Rattle.windows.specs.Shown.{record_of, shown}
 use Rattle.windows.specs.Laws.{offers_in, Read}
@@ -67,7 +67,7 @@ module _ (file : List ℕ) (at : ℕ) (h : 0 < size_at file at) (text : List ℕ
 pub records : (file : List ℕ) → Read (shown Records file (items_of file)) (calls_kept file (items_of file))
 unfolding shown
 records file =
-    all-ind file (λ (at : ℕ) (is : List Item). Read (shown Records file is) (calls_kept file is))
+    all_ind file (λ (at : ℕ) (is : List Item). Read (shown Records file is) (calls_kept file is))
     (λ at l. record { count = 0; whole = refl; offers = refl })
     (λ at is l z r. r)
     (λ at is l z r. field_read file at z (shown Records file is) (calls_kept file is) r)

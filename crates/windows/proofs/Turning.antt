@@ -18,7 +18,7 @@ use Rattle.windows.specs.declared.Stands.TheVariants.{Between, Since}
 use Rattle.windows.specs.declared.Turn.{Turn}
 use Rattle.windows.specs.Shown.{shown_of}
 use Rattle.windows.specs.Window.{spare, goal_of, turn_at, Began, Works, Steps, Ends, Closes, Passes}
-use Rattle.windows.proofs.Works.{works-none, works-then}
+use Rattle.windows.proofs.Works.{works_none, works_then}
 use Rattle.windows.proofs.Moves.{ends_there}
 
 pub record Sofar (wanted : Wanted) (window : List ℕ) (last : Bool) (first : ℕ) (stands : Stands) (out₀ : List ℕ) (t : Turn) (out : List ℕ) : Type 0 where
@@ -33,13 +33,13 @@ module _ {wanted : Wanted} {window : List ℕ} {last : Bool} {first : ℕ} {stan
   pub begin : Began stands first → Sofar wanted window last first stands out₀ (turn_at 0 0 stands) out₀
   begin b =
       record {
-        works = works-none (turn_at 0 0 stands) out₀ zero-le zero-le (rw (add-zero first) b);
+        works = works_none (turn_at 0 0 stands) out₀ zero-le zero-le (rw (add-zero first) b);
         idle = λ e. refl;
       }
 
   module _ {t : Turn} {out : List ℕ} (s : Sofar wanted window last first stands out₀ t out) where
     pub again : {r : Turn} {out' : List ℕ} → Steps wanted window last first t out r out' → Sofar wanted window last first stands out₀ r out'
-    again {r} n = record { works = works-then s.works n.works; idle = λ e. absurd (omega (arith, e, n.further)) }
+    again {r} n = record { works = works_then s.works n.works; idle = λ e. absurd (omega (arith, e, n.further)) }
 
     moves : Left last window t out → spare ≤ length out₀ → 0 < goal_of last (length window) → 0 < t.passed
     moves l room goal =
@@ -63,7 +63,7 @@ module _ {wanted : Wanted} {window : List ℕ} {last : Bool} {first : ℕ} {stan
         let b : Works wanted window last first t out r out' = rw e d.works in
         let k : (length window ≤ t.passed) ⊎ (length out < t.written + spare) = rw e at l in
         record {
-          works = works-then s.works b;
+          works = works_then s.works b;
           far = rw e (room-same r.written (d.far k));
           gets_on = λ room goal. omega (arith, moves l room goal, d.works.onward);
         }
@@ -73,11 +73,11 @@ module _ {wanted : Wanted} {window : List ℕ} {first : ℕ} {out : List ℕ} (t
   module _ (w : t.written ≤ length out) (b : Began t.stands (first + t.passed)) where
     unclosed : ((length window ≤ t.passed) ⊎ (length out < t.written + spare) → (length out < t.written + spare) ⊎ Ends true (length window) t)
         → Closes wanted window first t out t out
-    unclosed f = record { works = works-none t out p w b; far = f }
+    unclosed f = record { works = works_none t out p w b; far = f }
 
     -- no stretch is open; it goes on in the window; there is too little room
-    pub closed-already : t.stands ≡ Between → Closes wanted window first t out t out
-    closed-already e =
+    pub closed_already : t.stands ≡ Between → Closes wanted window first t out t out
+    closed_already e =
         unclosed (⊎_elim (λ (h : length window ≤ t.passed). inr (omega (arith, h, p), e)) (λ (h : length out < t.written + spare). inl h))
 
     pub not_there : t.passed < length window → Closes wanted window first t out t out

@@ -17,14 +17,14 @@ use Rattle.windows.specs.declared.Stands.TheVariants.{Between}
 use Rattle.windows.specs.Shown.{shown}
 use Rattle.windows.specs.Window.{left_at}
 use Rattle.windows.specs.Laws.{Turns, done, turn, lines_of}
-use Rattle.windows.proofs.Left.{left-none}
+use Rattle.windows.proofs.Left.{left_none}
 use Rattle.windows.proofs.Works.{shown_append}
 
 -- from a byte on they write what is left from there
 left_written : {wanted : Wanted} {file : List ℕ} {first : ℕ} {stands : Stands} {text : List ℕ} → Turns wanted file first stands text
     → text ≡ shown wanted file (left_at file first stands)
 unfolding shown
-left_written {wanted} {file} done = ap (shown wanted file) (sym (left-none file (length file) (omega arith)))
+left_written {wanted} {file} done = ap (shown wanted file) (sym (left_none file (length file) (omega arith)))
 left_written {wanted} {file} {first} {stands} (turn last window out r out' text v p more) =
     let t = p.works.tells file v in
     let next = left_at file (first + r.passed) r.stands in

@@ -9,7 +9,7 @@ use lib.ListN.{length, take, drop}
 use lib.Seq.{drop-drop, sets-eq, length-sets}
 use Rattle.digits.specs.Text.{Puts}
 use Rattle.salvage.specs.Items.{Item}
-use Rattle.salvage.proofs.Lists.{take-laid, drop-laid}
+use Rattle.salvage.proofs.Lists.{take_laid, drop_laid}
 use Rattle.windows.specs.declared.Wanted.{Wanted}
 use Rattle.windows.specs.declared.Stands.{Stands}
 use Rattle.windows.specs.declared.Turn.{Turn}
@@ -34,13 +34,13 @@ module _ {wanted : Wanted} {file : List ℕ} where
   unfolding shown
   tells_none {text = text} e = record { told = []; items = e; shows = sym (append-nil text) }
 
-  tells-one : {at at' : ℕ} {stands stands' : Stands} {text text' : List ℕ} (i : Item) → left_at file at stands ≡ i ∷ left_at file at' stands'
+  tells_one : {at at' : ℕ} {stands stands' : Stands} {text text' : List ℕ} (i : Item) → left_at file at stands ≡ i ∷ left_at file at' stands'
       → text' ≡ text ++ shown_of wanted file i → Tells wanted file at stands at' stands' text text'
-  tells-one {text = text} i e s = record { told = i ∷ []; items = e; shows = s ∙ ap (λ (l : List ℕ). text ++ l) (sym (shown_one wanted file i)) }
+  tells_one {text = text} i e s = record { told = i ∷ []; items = e; shows = s ∙ ap (λ (l : List ℕ). text ++ l) (sym (shown_one wanted file i)) }
 
-  tells-then : {at at' at'' : ℕ} {stands stands' stands'' : Stands} {text text' text'' : List ℕ} → Tells wanted file at stands at' stands' text text'
+  tells_then : {at at' at'' : ℕ} {stands stands' stands'' : Stands} {text text' text'' : List ℕ} → Tells wanted file at stands at' stands' text text'
       → Tells wanted file at' stands' at'' stands'' text' text'' → Tells wanted file at stands at'' stands'' text text''
-  tells-then {at'' = at''} {stands'' = stands''} {text = text} a b =
+  tells_then {at'' = at''} {stands'' = stands''} {text = text} a b =
       record {
         told = a.told ++ b.told;
         items = a.items ∙ ap (λ (l : List Item). a.told ++ l) b.items ∙ sym (append_assoc a.told b.told (left_at file at'' stands''));
@@ -61,16 +61,16 @@ module _ {out out' piece : List ℕ} {written end : ℕ} (p : Puts out written p
   laid_in = p.written ∙ sets-eq piece out written fits ∙ append_assoc (take written out) piece (drop (written + length piece) out)
 
   front : take end out' ≡ take written out ++ piece
-  front = ap₂ take p.past laid_in ∙ take-laid out piece written (length piece) (omega arith) refl
+  front = ap₂ take p.past laid_in ∙ take_laid out piece written (length piece) (omega arith) refl
 
   back : drop end out' ≡ drop end out
-  back = ap₂ drop p.past laid_in ∙ drop-laid out piece written (length piece) (omega arith) refl ∙ ap (λ (n : ℕ). drop n out) (sym p.past)
+  back = ap₂ drop p.past laid_in ∙ drop_laid out piece written (length piece) (omega arith) refl ∙ ap (λ (n : ℕ). drop n out) (sym p.past)
 
 -- ---- a window
 module _ {wanted : Wanted} {window : List ℕ} {last : Bool} {first : ℕ} where
-  pub works-none : (t : Turn) (out : List ℕ) → t.passed ≤ length window → t.written ≤ length out → Began t.stands (first + t.passed)
+  pub works_none : (t : Turn) (out : List ℕ) → t.passed ≤ length window → t.written ≤ length out → Began t.stands (first + t.passed)
       → Works wanted window last first t out t out
-  works-none t out p w b =
+  works_none t out p w b =
       record {
         tells = λ file v. tells_none refl;
         onward = omega arith;
@@ -82,11 +82,11 @@ module _ {wanted : Wanted} {window : List ℕ} {last : Bool} {first : ℕ} where
         behind = refl;
       }
 
-  pub works-then : {s t r : Turn} {out out' out'' : List ℕ} → Works wanted window last first s out t out' → Works wanted window last first t out' r out''
+  pub works_then : {s t r : Turn} {out out' out'' : List ℕ} → Works wanted window last first s out t out' → Works wanted window last first t out' r out''
       → Works wanted window last first s out r out''
-  works-then {t = t} {r = r} {out = out} {out' = out'} a b =
+  works_then {t = t} {r = r} {out = out} {out' = out'} a b =
       record {
-        tells = λ file v. tells-then (a.tells file v) (b.tells file v);
+        tells = λ file v. tells_then (a.tells file v) (b.tells file v);
         onward = omega (arith, a.onward, b.onward);
         within = b.within;
         began = b.began;
@@ -97,11 +97,11 @@ module _ {wanted : Wanted} {window : List ℕ} {last : Bool} {first : ℕ} where
       }
 
   -- on to another place, with nothing told
-  pub works-pass : {at at' written : ℕ} {stands stands' : Stands} {out : List ℕ}
+  pub works_pass : {at at' written : ℕ} {stands stands' : Stands} {out : List ℕ}
       → ((file : List ℕ) → Window file first last window → left_at file (first + at) stands ≡ left_at file (first + at') stands')
       → at ≤ at' → at' ≤ length window → written ≤ length out → Began stands' (first + at')
       → Works wanted window last first (turn_at at written stands) out (turn_at at' written stands') out
-  works-pass e o p w b =
+  works_pass e o p w b =
       record {
         tells = λ file v. tells_none (e file v);
         onward = o;
@@ -114,15 +114,15 @@ module _ {wanted : Wanted} {window : List ℕ} {last : Bool} {first : ℕ} where
       }
 
   -- on to another place, with an item told
-  pub works-tell : {at at' written end : ℕ} {stands stands' : Stands} {out out' piece : List ℕ} → Puts out written piece out' end
+  pub works_tell : {at at' written end : ℕ} {stands stands' : Stands} {out out' piece : List ℕ} → Puts out written piece out' end
       → written + length piece ≤ length out → (i : Item)
       → ((file : List ℕ) → Window file first last window
       → (left_at file (first + at) stands ≡ i ∷ left_at file (first + at') stands') × (piece ≡ shown_of wanted file i))
       → at ≤ at' → at' ≤ length window → Began stands' (first + at')
       → Works wanted window last first (turn_at at written stands) out (turn_at at' end stands') out'
-  works-tell {written = written} {out = out} {piece = piece} p fits i e o q b =
+  works_tell {written = written} {out = out} {piece = piece} p fits i e o q b =
       record {
-        tells = λ file v. tells-one i (e file v).0 (front p fits ∙ ap (λ (l : List ℕ). take written out ++ l) (e file v).1);
+        tells = λ file v. tells_one i (e file v).0 (front p fits ∙ ap (λ (l : List ℕ). take written out ++ l) (e file v).1);
         onward = o;
         within = q;
         began = b;

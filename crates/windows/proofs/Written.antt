@@ -21,16 +21,16 @@ module _ (window : List ℕ) (at n : ℕ) where
       → Puts out written (take n (drop at window)) out' end × (end ≤ written + n)
   field_put p = let e : at + n - at ≡ n = omega arith in (puts_as (ap (λ (k : ℕ). take k (drop at window)) e) p, short n (at + n - at) (drop at window) p (omega arith))
 
-  pub record-put : {written end : ℕ} {out out' : List ℕ} → get_or window at 0 ≡ 1 → 3 ≤ n
+  pub record_put : {written end : ℕ} {out out' : List ℕ} → get_or window at 0 ≡ 1 → 3 ≤ n
       → Puts out written (take (at + n - (at + 3)) (drop (at + 3) window)) out' end → Puts out written (record_of window (Kept at n)) out' end × (end ≤ written + n)
-  record-put t h p =
+  record_put t h p =
       let e : at + n - (at + 3) ≡ n - 3 = omega arith in
       let q = puts_as (ap (λ (k : ℕ). take k (drop (at + 3) window)) e) p in
       (rw (eq-eqb (get_or window at 0) 1 t) q, short n (at + n - (at + 3)) (drop (at + 3) window) p (omega arith))
 
-  pub record-none : {written : ℕ} {out : List ℕ} → (get_or window at 0 ≡ 1 → ⊥)
+  pub record_none : {written : ℕ} {out : List ℕ} → (get_or window at 0 ≡ 1 → ⊥)
       → Puts out written (record_of window (Kept at n)) out written × (written ≤ written + n)
-  record-none t = (rw (ne_eqb (get_or window at 0) 1 t) puts_none, omega arith)
+  record_none t = (rw (ne_eqb (get_or window at 0) 1 t) puts_none, omega arith)
 
 -- numbers of 64 bits have twenty digits at most
 pub line_long : (first count : ℕ) → first < 2 ^ 64 → count < 2 ^ 64 → length (row (first ∷ count ∷ [])) ≤ 42

@@ -14,11 +14,11 @@ module _ {A : Type 0} where
     pub long : length l ≡ size
     pub done : take i l ≡ t
 
-  pub begun-none : (l : List A) {size : ℕ} → length l ≡ size → Begun size 0 l []
-  begun-none l h = record { long = h; done = refl }
+  pub begun_none : (l : List A) {size : ℕ} → length l ≡ size → Begun size 0 l []
+  begun_none l h = record { long = h; done = refl }
 
-  pub begun-set : {size i : ℕ} {l t : List A} (v : A) → i < size → Begun size i l t → Begun size (suc i) (set l i v) (t ++ (v ∷ []))
-  begun-set {size} {i} {l} {t} v h b = record {
+  pub begun_set : {size i : ℕ} {l t : List A} (v : A) → i < size → Begun size i l t → Begun size (suc i) (set l i v) (t ++ (v ∷ []))
+  begun_set {size} {i} {l} {t} v h b = record {
     long = length-set l i v ∙ b.long;
     done = take-suc-set l i v (omega (arith, b.long)) ∙ ap (λ (a : List A). a ++ (v ∷ [])) b.done;
   }
@@ -28,9 +28,9 @@ module _ {A : Type 0} where
   part_long {size} {i} {l} {t} n h b = length-take-le n (drop i l) (omega (arith, length-drop i l, b.long))
 
   -- a part of n elements from i on, filled by a callee that leaves `last` there
-  pub begun-part : {size i n : ℕ} {l t last text : List A} → i + n ≤ size → length text ≡ n → last ≡ text → Begun size i l t
+  pub begun_part : {size i n : ℕ} {l t last text : List A} → i + n ≤ size → length text ≡ n → last ≡ text → Begun size i l t
       → Begun size (i + n) (put_mid i n l last) (t ++ text)
-  begun-part {size} {i} {n} {l} {t} {last} {text} h k e b =
+  begun_part {size} {i} {n} {l} {t} {last} {text} h k e b =
       let head : length (take i l ++ last) ≡ i + n = length-append (take i l) last ∙ omega (arith, length-take-le i l (omega (arith, b.long)), ap length e, k) in
       record {
         long = same_len_mid i n l last (ap length e ∙ k ∙ sym (part_long n h b)) ∙ b.long;
@@ -46,4 +46,4 @@ module _ {A : Type 0} where
 -- a number of n bytes
 pub begun_number : {size i : ℕ} {l t last : List ℕ} (n x : ℕ) → i + n ≤ size → last ≡ bytes_of (length (mid_of i n l)) x → Begun size i l t
     → Begun size (i + n) (put_mid i n l last) (t ++ bytes_of n x)
-begun_number n x h e b = begun-part h (length_bytes n x) (e ∙ ap (λ (z : ℕ). bytes_of z x) (part_long n h b)) b
+begun_number n x h e b = begun_part h (length_bytes n x) (e ∙ ap (λ (z : ℕ). bytes_of z x) (part_long n h b)) b

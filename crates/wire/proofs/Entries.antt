@@ -54,14 +54,14 @@ module _ (s : List ℕ) (i : ℕ) (h : Bytes s) (l : i + 9 ≤ length s) where
   nine : value_of (take 9 (drop i s)) ≡ get_or s i 0 * 2 ^ 64 + value_of (take 8 (drop (suc i) s))
   nine = ap (λ (r : List ℕ). value_of (take 9 r)) (drop-cons s i 0 (omega arith)) ∙ ap (λ (k : ℕ). get_or s i 0 * 2 ^ (8 * k) + value_of (take 8 (drop (suc i) s))) eight
 
-  low-lt : value_of (take 8 (drop (suc i) s)) < 2 ^ 64
-  low-lt = subst (λ (k : ℕ). value_of (take 8 (drop (suc i) s)) < 2 ^ (8 * k)) eight (value_lt (take 8 (drop (suc i) s)) (bytes_take 8 (drop (suc i) s) (bytes_drop (suc i) s h)))
+  low_lt : value_of (take 8 (drop (suc i) s)) < 2 ^ 64
+  low_lt = subst (λ (k : ℕ). value_of (take 8 (drop (suc i) s)) < 2 ^ (8 * k)) eight (value_lt (take 8 (drop (suc i) s)) (bytes_take 8 (drop (suc i) s) (bytes_drop (suc i) s h)))
 
-  pub nine-high : value_of (take 9 (drop i s)) / 2 ^ 64 ≡ get_or s i 0
-  nine-high = ap (λ (x : ℕ). x / 2 ^ 64) nine ∙ high (get_or s i 0) 64 low-lt
+  pub nine_high : value_of (take 9 (drop i s)) / 2 ^ 64 ≡ get_or s i 0
+  nine_high = ap (λ (x : ℕ). x / 2 ^ 64) nine ∙ high (get_or s i 0) 64 low_lt
 
-  pub nine-low : value_of (take 9 (drop i s)) % 2 ^ 64 ≡ value_of (take 8 (drop (suc i) s))
-  nine-low = ap (λ (x : ℕ). x % 2 ^ 64) nine ∙ low (get_or s i 0) 64 low-lt
+  pub nine_low : value_of (take 9 (drop i s)) % 2 ^ 64 ≡ value_of (take 8 (drop (suc i) s))
+  nine_low = ap (λ (x : ℕ). x % 2 ^ 64) nine ∙ low (get_or s i 0) 64 low_lt
 
 -- ---- an entry
 pub entry_long : (t : Three) → length (entry_bytes t) ≡ 20
@@ -70,9 +70,9 @@ entry_long t = refl
 
 -- its numbers have room, and are read back one by one
 module _ (t : Three) where
-  day-back : t.day < 2 ^ 16 → (three_from (entry_bytes t)).day ≡ t.day
+  day_back : t.day < 2 ^ 16 → (three_from (entry_bytes t)).day ≡ t.day
   unfolding entry_bytes
-  day-back h = value_bytes 2 t.day ∙ mod-eq_of_lt h
+  day_back h = value_bytes 2 t.day ∙ mod-eq_of_lt h
 
   even_back : t.even < 2 ^ 72 → (three_from (entry_bytes t)).even ≡ t.even
   unfolding entry_bytes
@@ -86,7 +86,7 @@ entry_back_lem : (e : Entry) → Fits e → entry_from (entry_bytes (meaning e))
 unfolding entry_from
 entry_back_lem e f =
     let t = meaning e in
-    let a = day-back t f.day in
+    let a = day_back t f.day in
     let b = even_back t (omega (arith, f.even, f.etop)) in
     let c = odd_back t (omega (arith, f.odd, f.otop)) in
     ap (λ (x : ℕ). entry_of (record { day = x; even = (three_from (entry_bytes t)).even; odd = (three_from (entry_bytes t)).odd })) a
@@ -99,15 +99,15 @@ module _ (s : List ℕ) (h : Bytes s) (l : length s ≡ 20) where
   part_long : (i n : ℕ) → i + n ≤ 20 → length (take n (drop i s)) ≡ n
   part_long i n k = length-take-le n (drop i s) (omega (arith, length-drop i s, l))
 
-  part-forth : (i n : ℕ) → i + n ≤ 20 → bytes_of n (value_of (take n (drop i s))) ≡ take n (drop i s)
-  part-forth i n k =
+  part_forth : (i n : ℕ) → i + n ≤ 20 → bytes_of n (value_of (take n (drop i s))) ≡ take n (drop i s)
+  part_forth i n k =
       ap (λ (m : ℕ). bytes_of m (value_of (take n (drop i s)))) (sym (part_long i n k)) ∙ bytes_value (take n (drop i s)) (bytes_take n (drop i s) (bytes_drop i s h))
 
-  part-lt : (i n : ℕ) → i + n ≤ 20 → value_of (take n (drop i s)) < 2 ^ (8 * n)
-  part-lt i n k = subst (λ (m : ℕ). value_of (take n (drop i s)) < 2 ^ (8 * m)) (part_long i n k) (value_lt (take n (drop i s)) (bytes_take n (drop i s) (bytes_drop i s h)))
+  part_lt : (i n : ℕ) → i + n ≤ 20 → value_of (take n (drop i s)) < 2 ^ (8 * n)
+  part_lt i n k = subst (λ (m : ℕ). value_of (take n (drop i s)) < 2 ^ (8 * m)) (part_long i n k) (value_lt (take n (drop i s)) (bytes_take n (drop i s) (bytes_drop i s h)))
 
-  pub day-lt : value_of (take 2 s) < 2 ^ 16
-  day-lt = part-lt 0 2 (omega arith)
+  pub day_lt : value_of (take 2 s) < 2 ^ 16
+  day_lt = part_lt 0 2 (omega arith)
 
   parts : take 2 s ++ (take 9 (drop 2 s) ++ take 9 (drop 11 s)) ≡ s
   parts =
@@ -115,20 +115,20 @@ module _ (s : List ℕ) (h : Bytes s) (l : length s ≡ 20) where
       ∙ ap (λ (r : List ℕ). take 2 s ++ r) (sym (take-add 9 9 (drop 2 s)))
       ∙ sym (take-add 2 18 s) ∙ ap (λ (k : ℕ). take k s) (sym l) ∙ take-length s
 
-  entry-forth : entry_bytes (meaning (entry_from s)) ≡ s
+  entry_forth : entry_bytes (meaning (entry_from s)) ≡ s
   unfolding entry_from entry_bytes
-  entry-forth =
+  entry_forth =
       ap entry_bytes (meaning_entry _)
-      ∙ ap₂ (λ (x y : List ℕ). x ++ (y ++ bytes_of 9 (value_of (take 9 (drop 11 s))))) (part-forth 0 2 (omega arith)) (part-forth 2 9 (omega arith))
-      ∙ ap (λ (x : List ℕ). take 2 s ++ (take 9 (drop 2 s) ++ x)) (part-forth 11 9 (omega arith))
+      ∙ ap₂ (λ (x y : List ℕ). x ++ (y ++ bytes_of 9 (value_of (take 9 (drop 11 s))))) (part_forth 0 2 (omega arith)) (part_forth 2 9 (omega arith))
+      ∙ ap (λ (x : List ℕ). take 2 s ++ (take 9 (drop 2 s) ++ x)) (part_forth 11 9 (omega arith))
       ∙ parts
 
-  entry-fits : Fits (entry_from s)
+  entry_fits : Fits (entry_from s)
   unfolding entry_from entry_of
-  entry-fits =
-      let a = part-lt 2 9 (omega arith) in
-      let b = part-lt 11 9 (omega arith) in
-      record { even = mod-lt _ (pow_pos 64); odd = mod-lt _ (pow_pos 64); day = day-lt; etop = omega arith; otop = omega arith }
+  entry_fits =
+      let a = part_lt 2 9 (omega arith) in
+      let b = part_lt 11 9 (omega arith) in
+      record { even = mod-lt _ (pow_pos 64); odd = mod-lt _ (pow_pos 64); day = day_lt; etop = omega arith; otop = omega arith }
 
 -- three numbers of these widths, whatever they are
 three_small : (x y z : ℕ) → Bytes (bytes_of 2 x ++ (bytes_of 9 y ++ bytes_of 9 z))
@@ -167,7 +167,7 @@ unfolding entries_bytes entries_from
 entries_forth zero [] h l = refl
 entries_forth zero (b ∷ s) h l = absurd (omega arith)
 entries_forth (suc n) s h l =
-    ap₂ (λ (x y : List ℕ). x ++ y) (entry-forth (take 20 s) (bytes_take 20 s h) (length-take-le 20 s (omega arith)))
+    ap₂ (λ (x y : List ℕ). x ++ y) (entry_forth (take 20 s) (bytes_take 20 s h) (length-take-le 20 s (omega arith)))
     (entries_forth n (drop 20 s) (bytes_drop 20 s h) (omega (arith, length-drop 20 s)))
     ∙ take-append-drop 20 s
 
@@ -179,7 +179,7 @@ entries_many (suc n) s = ap suc (entries_many n (drop 20 s))
 pub entries_fit : (n : ℕ) (s : List ℕ) → Bytes s → length s ≡ n * 20 → AllFit (entries_from n s)
 unfolding entries_from
 entries_fit zero s h l i = blank_fits
-entries_fit (suc n) s h l zero = entry-fits (take 20 s) (bytes_take 20 s h) (length-take-le 20 s (omega arith))
+entries_fit (suc n) s h l zero = entry_fits (take 20 s) (bytes_take 20 s h) (length-take-le 20 s (omega arith))
 entries_fit (suc n) s h l (suc i) = entries_fit n (drop 20 s) (bytes_drop 20 s h) (omega (arith, length-drop 20 s)) i
 
 -- ---- one entry more

@@ -95,8 +95,8 @@ module _ (w : Word) where
   between : (z : ℤ) → in_range w z ≡ true → (le_z (least_of w) z ≡ true) × (le_z z (most_of w) ≡ true)
   between z e = both (le_z (least_of w) z) (le_z z (most_of w)) (both (le_z (least_of w) z && le_z z (most_of w)) _ e).0
 
-  pub signed-near : T (signed_test w) → (z : ℤ) → in_range w z ≡ true → nat_abs z < half_of w
-  signed-near t z e =
+  pub signed_near : T (signed_test w) → (z : ℤ) → in_range w z ≡ true → nat_abs z < half_of w
+  signed_near t z e =
       let r = and_right (leb w.low w.top) _ t in
       let b = between z e in
       near (half_of w) (least_of w) z (most_of w) (ltb→lt _ _ (and_left (ltb (nat_abs (least_of w)) (half_of w)) _ r)) (ltb→lt _ _ (and_right (ltb (nat_abs (least_of w)) (half_of w)) _ r))
@@ -106,55 +106,55 @@ module _ (w : Word) where
   code_lt (pos n) h = omega arith
   code_lt (negsuc n) h = omega arith
 
-  pub signed-wide : T (signed_test w) → half_of w + half_of w ≡ 2 ^ width w
-  signed-wide t =
+  pub signed_wide : T (signed_test w) → half_of w + half_of w ≡ 2 ^ width w
+  signed_wide t =
       let l : w.low ≤ w.top = leb→le _ _ (and_left (leb w.low w.top) _ t) in
       let e : width w ≡ suc (w.top - w.low) = omega arith in
       sym (ap (λ (x : ℕ). 2 ^ x) e ∙ omega arith)
 
-  pub carrier-wide : T (carrier_test w) → 2 ^ width w ≡ 32
-  carrier-wide t = eqb→eq (2 ^ width w) 32 (and_left (eqb (2 ^ width w) 32) _ t)
+  pub carrier_wide : T (carrier_test w) → 2 ^ width w ≡ 32
+  carrier_wide t = eqb→eq (2 ^ width w) 32 (and_left (eqb (2 ^ width w) 32) _ t)
 
   -- H: any value that 25..31 do not say stands for itself
-  pub carrier-near : T (carrier_test w) → (z : ℤ) → in_range w z ≡ true → (le_z (negsuc 6) z ≡ true) × (le_z z (pos 24) ≡ true)
-  carrier-near t z e =
+  pub carrier_near : T (carrier_test w) → (z : ℤ) → in_range w z ≡ true → (le_z (negsuc 6) z ≡ true) × (le_z z (pos 24) ≡ true)
+  carrier_near t z e =
       let r = and_right (eqb (2 ^ width w) 32) _ t in
       let b = between z e in (
         le_z_trans (negsuc 6) (least_of w) z (and_left (le_z (negsuc 6) (least_of w)) _ r) b.0,
         trans_le_z z (most_of w) (pos 24) b.1 (and_right (le_z (negsuc 6) (least_of w)) _ r),
       )
 
-  carrier-lt : (z : ℤ) → le_z z (pos 24) ≡ true → carrier_code z < 32
-  carrier-lt (pos n) u = omega (arith, leb-true n 24 u)
-  carrier-lt (negsuc n) u = omega arith
+  carrier_lt : (z : ℤ) → le_z z (pos 24) ≡ true → carrier_code z < 32
+  carrier_lt (pos n) u = omega (arith, leb-true n 24 u)
+  carrier_lt (negsuc n) u = omega arith
 
-  pub plain-pos : T (plain_test w) → (z : ℤ) → in_range w z ≡ true → pos (nat_abs z) ≡ z
-  plain-pos t z e = pos-nat_abs z (unsigned (least_of w) z (and_left (non_neg (least_of w)) _ t) (between z e).0)
+  pub plain_pos : T (plain_test w) → (z : ℤ) → in_range w z ≡ true → pos (nat_abs z) ≡ z
+  plain_pos t z e = pos-nat_abs z (unsigned (least_of w) z (and_left (non_neg (least_of w)) _ t) (between z e).0)
 
-  plain-lt : T (plain_test w) → (z : ℤ) → in_range w z ≡ true → nat_abs z < 2 ^ width w
-  plain-lt t z e =
-      lt_of_le_of_lt (upper (nat_abs z) (most_of w) (ap (λ (y : ℤ). le_z y (most_of w)) (plain-pos t z e) ∙ (between z e).1))
+  plain_lt : T (plain_test w) → (z : ℤ) → in_range w z ≡ true → nat_abs z < 2 ^ width w
+  plain_lt t z e =
+      lt_of_le_of_lt (upper (nat_abs z) (most_of w) (ap (λ (y : ℤ). le_z y (most_of w)) (plain_pos t z e) ∙ (between z e).1))
       (ltb→lt _ _ (and_right (non_neg (least_of w)) _ t))
 
   -- by its form
   fits_by : (f : Form) → w.form ≡ f → T (form_test f w) → (z : ℤ) → in_range w z ≡ true → code_in w z < 2 ^ width w
-  fits_by Plain p t z e = rw p (plain-lt t z e)
-  fits_by Signed p t z e = rw p (rw (← signed-wide t) (code_lt z (signed-near t z e)))
-  fits_by Time p t z e = rw p (plain-lt t z e)
-  fits_by Interval p t z e = rw p (plain-lt t z e)
-  fits_by Day p t z e = rw p (plain-lt t z e)
-  fits_by Slot p t z e = rw p (plain-lt t z e)
-  fits_by Carrier p t z e = rw p (rw (carrier-wide t) (carrier-lt z (carrier-near t z e).1))
+  fits_by Plain p t z e = rw p (plain_lt t z e)
+  fits_by Signed p t z e = rw p (rw (← signed_wide t) (code_lt z (signed_near t z e)))
+  fits_by Time p t z e = rw p (plain_lt t z e)
+  fits_by Interval p t z e = rw p (plain_lt t z e)
+  fits_by Day p t z e = rw p (plain_lt t z e)
+  fits_by Slot p t z e = rw p (plain_lt t z e)
+  fits_by Carrier p t z e = rw p (rw (carrier_wide t) (carrier_lt z (carrier_near t z e).1))
 
-  pub form-test : T (sound_test w) → T (form_test w.form w)
-  form-test t =
+  pub form_test_lem : T (sound_test w) → T (form_test w.form w)
+  form_test_lem t =
       let a = leb 9 w.low in
       let b = leb w.low (w.top + 1) in
       let c = ltb 0 w.top in
       and_right c _ (and_right b _ (and_right a _ t))
 
-  pub sound-of : T (sound_test w) → Sound w
-  sound-of t =
+  pub sound_of : T (sound_test w) → Sound w
+  sound_of t =
       let a = leb 9 w.low in
       let b = leb w.low (w.top + 1) in
       let u = and_right a _ t in
@@ -162,7 +162,7 @@ module _ (w : Word) where
         some = ltb→lt _ _ (and_left (ltb 0 w.top) _ (and_right b _ u));
         above = leb→le _ _ (and_left a _ t);
         order = leb→le _ _ (and_left b _ u);
-        fits = fits_by w.form refl (form-test t);
+        fits = fits_by w.form refl (form_test_lem t);
       }
 
 -- ---- a list of words: each below the one before, all in bit t and below, and each sound
@@ -180,7 +180,7 @@ laid_of t w ws d =
     let r = and_right (leb w.top t) _ d in
     record {
       under = leb→le _ _ (and_left (leb w.top t) _ d);
-      sound = sound-of w (and_left (sound_test w) _ r);
+      sound = sound_of w (and_left (sound_test w) _ r);
       rest = and_right (sound_test w) _ r;
     }
 
@@ -195,7 +195,7 @@ test_at_lem t (w ∷ ws) d zero = and_left (sound_test w) _ (and_right (leb w.to
 test_at_lem t (w ∷ ws) d (suc j) = test_at_lem (w.low - 1) ws (laid_of t w ws d).rest j
 
 pub sound_at : (t : ℕ) (ws : List Word) → T (laid t ws) → (j : ℕ) → Sound (get_or ws j none)
-sound_at t ws d j = sound-of (get_or ws j none) (test_at_lem t ws d j)
+sound_at t ws d j = sound_of (get_or ws j none) (test_at_lem t ws d j)
 
 -- every value has bits that its word holds
 abbrev pub Fit : List Word → List ℤ → Type 0

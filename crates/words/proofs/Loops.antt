@@ -33,30 +33,30 @@ values_at n (w ∷ ws) (suc j) h = values_at n ws j (le_of_suc-le-suc h)
 -- w is the word at place j, and v has a value there
 module _ (ws : List Word) (v : List ℤ) (j : ℕ) (w : Word) (h : j < length ws) (l : j < length v) (e : w ≡ get_or ws j none) where
   -- one value more is read
-  pub values-step : (n : ℕ) → take j v ≡ take j (values_of n ws)
+  pub values_step : (n : ℕ) → take j v ≡ take j (values_of n ws)
       → take (j + 1) (set v j (value_in w (word_of n w.top w.low))) ≡ take (j + 1) (values_of n ws)
-  values-step n p =
+  values_step n p =
       let k : j < length (values_of n ws) = rw (values_long n ws) h in
       rw (add-one j, take-suc-set v j (value_in w (word_of n w.top w.low)) l, take-suc (values_of n ws) j (pos 0) k, values_at n ws j h, ← e, p)
 
   -- one value more is in range
-  pub bad-step : in_range w (get_or v j (pos 0)) ≡ true → first_bad (drop j ws) (drop j v) ≡ first_bad (drop (j + 1) ws) (drop (j + 1) v)
+  pub bad_step : in_range w (get_or v j (pos 0)) ≡ true → first_bad (drop j ws) (drop j v) ≡ first_bad (drop (j + 1) ws) (drop (j + 1) v)
   unfolding first_bad
-  bad-step t =
+  bad_step t =
       rw (add-one j, drop-cons ws j none h, drop-cons v j (pos 0) l, ← e)
       (ap (λ (b : Bool). pick b (first_bad (drop (suc j) ws) (drop (suc j) v)) w.top) t)
 
   -- and one that is not is the first
-  pub bad-found : in_range w (get_or v j (pos 0)) ≡ false → first_bad (drop j ws) (drop j v) ≡ w.top
+  pub bad_found : in_range w (get_or v j (pos 0)) ≡ false → first_bad (drop j ws) (drop j v) ≡ w.top
   unfolding first_bad
-  bad-found t =
+  bad_found t =
       rw (drop-cons ws j none h, drop-cons v j (pos 0) l, ← e) (ap (λ (b : Bool). pick b (first_bad (drop (suc j) ws) (drop (suc j) v)) w.top) t)
 
   -- one word more is written: its bits go above the padding's three
-  pub data-step : 1 ≤ w.low
+  pub data_step : 1 ≤ w.low
       → code_in w (get_or v j (pos 0)) * 2 ^ (w.low + 2) + data_of (drop (j + 1) ws) (drop (j + 1) v) * 8 ≡ data_of (drop j ws) (drop j v) * 8
   unfolding data_of
-  data-step k =
+  data_step k =
       let c = code_in w (get_or v j (pos 0)) in
       let p : 2 ^ (w.low + 2) ≡ 2 ^ (w.low - 1) * 8 = ap (λ (x : ℕ). 2 ^ x) (omega arith) ∙ pow-add 2 (w.low - 1) 3 in
       let q : c * 2 ^ (w.low + 2) ≡ c * 2 ^ (w.low - 1) * 8 = ap (λ (x : ℕ). c * x) p ∙ sym (mul_assoc c (2 ^ (w.low - 1)) 8) in

@@ -28,7 +28,7 @@ use Rattle.words.specs.Values.{carrier_of, values_of}
 use Rattle.words.specs.Immediate.{string_at, immediate_of}
 use Rattle.words.specs.Calls.{Reads, Writes}
 use Rattle.words.specs.Names.{signed_in, OneIn, TwoIn, ThreeIn, FourIn, Named, ImmediateIn}
-use Rattle.words.proofs.RoundTrips.{is_read, written-values}
+use Rattle.words.proofs.RoundTrips.{is_read, written_values}
 
 -- ---- sign and magnitude, by the bits: b is the sign, m the magnitude
 sign_by : (half b m raw : ℕ) → b < 2 → m < half → raw ≡ b * half + m → signed_at half raw ≡ pick (eqb b 1) (neg_ℤ (pos m)) (pos m)
@@ -152,7 +152,7 @@ read_named s k m r a =
 
 -- WHAT IS WRITTEN: m stands in bits 84 to 81, and each word by its name in its bits
 pub written_named : (m : ℕ) (r : Record) (out out' : List ℕ) → Writes m r out Done out' → (word_of (number_of out') 84 81 ≡ m) × Named (number_of out') r
-written_named m r out out' a = let v = written-values m r out out' a in (v.0, named_by (number_of out') r (sym v.1))
+written_named m r out out' a = let v = written_values m r out out' a in (v.0, named_by (number_of out') r (sym v.1))
 
 -- ---- AN IMMEDIATE RECORD: four strings of eleven bytes, one after the other, each by name in its own bits
 pub immediate_named : (a b c d : List ℕ) → length a ≡ 11 → length b ≡ 11 → length c ≡ 11 → length d ≡ 11

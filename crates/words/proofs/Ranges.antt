@@ -24,7 +24,7 @@ use Rattle.strings.specs.Calls.{no_room, sound_tests}
 use Rattle.strings.proofs.Below.{and_left, and_right, below, below_at, unfit, both}
 use Rattle.strings.proofs.Answer.{first_given}
 use Rattle.strings.proofs.Tests.{past_other, all_of, first_fits}
-use Rattle.strings.proofs.SoundTests.{sound-else, sound-then}
+use Rattle.strings.proofs.SoundTests.{sound_else, sound_then}
 use Rattle.layout.specs.declared.table.Form.{Form}
 use Rattle.layout.specs.declared.table.Form.TheVariants.{Plain, Signed, Time, Interval, Day, Slot, Carrier}
 use Rattle.layout.specs.declared.table.Word.{Word}
@@ -45,9 +45,9 @@ use Rattle.words.proofs.Forms.{and_all}
 use Rattle.words.proofs.WordBits.{word_lt}
 use Rattle.layout.proofs.Rows.{layout_long}
 use Rattle.words.proofs.Fits.{is_true, sound_at, range_at, layout_laid}
-use Rattle.words.proofs.Trip.{kind-values-long}
+use Rattle.words.proofs.Trip.{kind_values_long}
 use Rattle.records.proofs.RecordLists.{list_long}
-use Rattle.words.proofs.RoundTrips.{write-numbers}
+use Rattle.words.proofs.RoundTrips.{write_numbers}
 
 -- ---- "RANGE names the first word that fails, from the highest bit number down, by that word's top bit number"
 first_out : (w : Word) (ws : List Word) (z : ℤ) (zs : List ℤ) (b : Bool) → in_range w z ≡ b → ((first_bad ws zs ≡ 0 → ⊥) → FirstOut ws zs (first_bad ws zs))
@@ -90,16 +90,16 @@ module _ (k : Kind) (zs : List ℤ) (n : length zs ≡ 8) where
 
   -- p, not 0, is told exactly where it is the top bit number of a word that is out of range while every word before it, higher up
   -- (`words_fall` of the layout), is in range
-  pub first-bad-is : (p : ℕ) → ((p ≡ 0 → ⊥) × (first_bad (layout k) zs ≡ p)) ↔ FirstOut (layout k) zs p
-  first-bad-is p = (
+  pub first_bad_is : (p : ℕ) → ((p ≡ 0 → ⊥) × (first_bad (layout k) zs ≡ p)) ↔ FirstOut (layout k) zs p
+  first_bad_is p = (
     (λ h. subst (FirstOut (layout k) zs) h.1 (found (layout k) zs long (λ e. h.0 (sym h.1 ∙ e)))),
     (λ o. let some = (sound_at 80 (layout k) (layout_laid k) o.index).some in
         ((λ e. omega (arith, o.names)), stops (layout k) zs o.index long o.there o.fails o.before ∙ sym o.names)),
   )
 
   -- and 0 exactly where every word is in range
-  pub none-bad-is : (first_bad (layout k) zs ≡ 0) ↔ ((j : ℕ) → j < 8 → in_range (word_at k j) (get_or zs j (pos 0)) ≡ true)
-  none-bad-is = (
+  pub none_bad_is : (first_bad (layout k) zs ≡ 0) ↔ ((j : ℕ) → j < 8 → in_range (word_at k j) (get_or zs j (pos 0)) ≡ true)
+  none_bad_is = (
     (λ e j l. range_at (layout k) zs 80 (layout_laid k) long e j (omega (arith, layout_long k))),
     (λ b. passes (layout k) zs (λ j l. b j (omega (arith, layout_long k)))),
   )
@@ -131,18 +131,18 @@ is_free Slot = false
 is_free Carrier = false
 
 module _ (t l raw : ℕ) (h : raw < 2 ^ (t + 1 - l)) where
-  plain_in : in_range (word Plain t l) (value_in (word Plain t l) raw) ≡ true
-  plain_in = rw (le-leb 0 raw (omega arith), le-leb raw (2 ^ (t + 1 - l) - 1) (omega arith))
+  plain_in_lem : in_range (word Plain t l) (value_in (word Plain t l) raw) ≡ true
+  plain_in_lem = rw (le-leb 0 raw (omega arith), le-leb raw (2 ^ (t + 1 - l) - 1) (omega arith))
 
-  sign-in : in_range (word Signed t l) (value_in (word Signed t l) raw) ≡ true
-  sign-in =
+  sign_in : in_range (word Signed t l) (value_in (word Signed t l) raw) ≡ true
+  sign_in =
       let e : 2 ^ suc (t - l) ≡ 2 ^ (t - l) + 2 ^ (t - l) = omega arith in
       let u : raw < 2 ^ (t - l) + 2 ^ (t - l) = rw (← e) (lt_of_lt_of_le h (pow_mono {i = t + 1 - l} {j = suc (t - l)} (omega arith))) in
       rw (signed_in_lem (2 ^ (t - l)) raw (pow_pos (t - l)) u)
 
   form_in : (f : Form) → is_free f ≡ true → in_range (word f t l) (value_in (word f t l) raw) ≡ true
-  form_in Plain e = plain_in
-  form_in Signed e = sign-in
+  form_in Plain e = plain_in_lem
+  form_in Signed e = sign_in
   form_in Time e = absurd (true≢false (sym e))
   form_in Interval e = absurd (true≢false (sym e))
   form_in Day e = absurd (true≢false (sym e))
@@ -342,23 +342,23 @@ module _ (s : List ℕ) (k : Kind) (p : ℕ) (a : Reads s k (Refused (Range p)))
   read_told =
       let f : first_of (read_tests s k) ≡ 10 = first_given (read_tests s k) (number_in left ∷ kind_number k ∷ []) a.answer in
       let shape = past_other 2 10 (misshapen s) (sound_tests (number_of s) ++ after) (λ q. omega arith) f in
-      let sound = sound-else (number_of s) 10 after not_there shape.1 in
+      let sound = sound_else (number_of s) 10 after not_there shape.1 in
       let numbered = past_other 5 10 (eqb (number_in left) 0) (drop 1 after) (λ q. omega arith) sound.1 in
       let place = past_other 11 10 (not (of_kind k (number_in left))) (drop 2 after) (λ q. omega arith) numbered.1 in
       let t = first_fits 10 (not (eqb bad 0)) (drop 3 after) tt tt place.1 in
-      let passed = sound-then (number_of s) sound.0 after in
+      let passed = sound_then (number_of s) sound.0 after in
       let e : (10 ∷ p ∷ []) ≡ (10 ∷ bad ∷ []) = a.answer ∙ rw (shape.0, passed.0, passed.1, numbered.0, place.0, t) in
       (ap (λ (l : List ℕ). get_or l 1 0) e, not-true _ t)
 
   -- by the reader, of the string as the check leaves it
-  pub read-range : FirstOut (layout k) (values_of (mended (number_of s)) (layout k)) p
-  read-range =
+  pub read_range : FirstOut (layout k) (values_of (mended (number_of s)) (layout k)) p
+  read_range =
       let e = read_told in
-      (first-bad-is k (values_of left (layout k)) (kind-values-long k left) p).0 ((λ z. eqb-false bad 0 e.1 (sym e.0 ∙ z)), sym e.0)
+      (first_bad_is k (values_of left (layout k)) (kind_values_long k left) p).0 ((λ z. eqb-false bad 0 e.1 (sym e.0 ∙ z)), sym e.0)
 
   -- which can only be tk, tb, NA, nA or H
-  pub read-range-place : p ≡ may_fail k
-  read-range-place =
+  pub read_range_place : p ≡ may_fail k
+  read_range_place =
       let e = read_told in
       ⊎_elim (λ (z : bad ≡ 0). absurd (eqb-false bad 0 e.1 z)) (λ (m : bad ≡ may_fail k). e.0 ∙ m) (reading_fails_only left k)
 
@@ -367,9 +367,9 @@ pub write_range : (m : ℕ) (r : Record) (out out' : List ℕ) (p : ℕ) → Wri
 unfolding Writes
 write_range m r out out' p a =
     let bad = first_bad (layout (kind_of r)) (list_of r) in
-    let f = ((write-numbers m r out (NotWritten (Range p)) out' a).refused 2 (lit< tt)).0 refl in
+    let f = ((write_numbers m r out (NotWritten (Range p)) out' a).refused 2 (lit< tt)).0 refl in
     let c = f.1 in
     let t = is_true (not (eqb bad 0)) f.0 in
     let e : (10 ∷ p ∷ []) ≡ (10 ∷ bad ∷ []) = a.answer ∙ rw (unfit (no_room out) (c 0 (lit< tt)), unfit (not (of_kind (kind_of r) m)) (c 1 (lit< tt)), t) in
     let q : p ≡ bad = ap (λ (l : List ℕ). get_or l 1 0) e in
-    (first-bad-is (kind_of r) (list_of r) (list_long r) p).0 ((λ z. eqb-false bad 0 (not-true _ t) (sym q ∙ z)), sym q)
+    (first_bad_is (kind_of r) (list_of r) (list_long r) p).0 ((λ z. eqb-false bad 0 (not-true _ t) (sym q ∙ z)), sym q)

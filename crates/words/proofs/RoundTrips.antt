@@ -33,9 +33,9 @@ use Rattle.strings.proofs.Shape.{string_shaped, has_room_lem, shaped}
 use Rattle.strings.proofs.Below.{unfit, both}
 use Rattle.strings.proofs.Answer.{goes_on, takes, same_answer, refusal_same, written_same, exactly, first_given, taken_made, refused_left}
 use Rattle.strings.proofs.Tests.{past_first}
-use Rattle.strings.proofs.SoundTests.{sound-first, sound-then, sound_same}
+use Rattle.strings.proofs.SoundTests.{sound_first, sound_then, sound_same}
 use Rattle.strings.proofs.Encode.{encode_encoded, encode_stays, encode_lt, encoded_once}
-use Rattle.strings.proofs.CheckRule.{encoded-clean}
+use Rattle.strings.proofs.CheckRule.{encoded_clean}
 use Rattle.strings.proofs.Flips.{encoded_ruling, one_flip_ruling}
 use Rattle.strings.proofs.Judge.{mended_by_lem}
 use Rattle.layout.specs.declared.table.Form.{Form}
@@ -58,8 +58,8 @@ use Rattle.layout.proofs.Rows.{layout_long, placed_at}
 use Rattle.layout.proofs.ReservedBits.{reserved_free}
 use Rattle.words.proofs.Loops.{values_long}
 use Rattle.words.proofs.Sign.{never_minus_zero}
-use Rattle.words.proofs.Fits.{half_of, form_test, form-test, test_at_lem, signed-near, range_at, data_lt, sound_at, layout_laid, kind_fit, kind_data_lt}
-use Rattle.words.proofs.Trip.{kind-values, kind-values-same, data_values, read_fit, bit_same, word_same, word_data, code_read, gap_data}
+use Rattle.words.proofs.Fits.{half_of, form_test, form_test_lem, test_at_lem, signed_near, range_at, data_lt, sound_at, layout_laid, kind_fit, kind_data_lt}
+use Rattle.words.proofs.Trip.{kind_values, kind_values_same, data_values, read_fit, bit_same, word_same, word_data, code_read, gap_data}
 
 -- ---- a reading is known by its numbers and its words
 pub reading_same : (q p : Reading) → reading_paper q ≡ reading_paper p → reading_words q ≡ reading_words p → q ≡ p
@@ -73,9 +73,9 @@ reading_same (Refused q) (Refused p) e f = ap Refused (refusal_same q p e)
 
 -- ---- NO SECOND ANSWER FITS, AND EACH NUMBER EXACTLY: the reader
 module _ (s : List ℕ) (k : Kind) where
-  pub read-once : (q p : Reading) → Reads s k q → Reads s k p → q ≡ p
+  pub read_once : (q p : Reading) → Reads s k q → Reads s k p → q ≡ p
   unfolding Reads
-  read-once q p a b = reading_same q p (a.answer ∙ sym b.answer) (a.words ∙ sym b.words)
+  read_once q p a b = reading_same q p (a.answer ∙ sym b.answer) (a.words ∙ sym b.words)
 
   pub read_numbers : (q : Reading) → Reads s k q → Exactly (read_tests s k) (reading_paper q)
   unfolding Reads sound_tests
@@ -83,18 +83,18 @@ module _ (s : List ℕ) (k : Kind) where
 
 -- the encoder
 module _ (m : ℕ) (r : Record) (out : List ℕ) where
-  pub write-once : (w v : Written) (out' out'' : List ℕ) → Writes m r out w out' → Writes m r out v out'' → (w ≡ v) × (out' ≡ out'')
+  pub write_once : (w v : Written) (out' out'' : List ℕ) → Writes m r out w out' → Writes m r out v out'' → (w ≡ v) × (out' ≡ out'')
   unfolding Writes
-  write-once w v out' out'' a b = let e = same_answer a b in (written_same w v e.0, e.1)
+  write_once w v out' out'' a b = let e = same_answer a b in (written_same w v e.0, e.1)
 
   -- "Refusals leave outputs untouched"
-  pub write-untouched : (q : Refusal) (out' : List ℕ) → Writes m r out (NotWritten q) out' → out' ≡ out
+  pub write_untouched : (q : Refusal) (out' : List ℕ) → Writes m r out (NotWritten q) out' → out' ≡ out
   unfolding Writes
-  write-untouched q out' a = refused_left q a
+  write_untouched q out' a = refused_left q a
 
-  pub write-numbers : (w : Written) (out' : List ℕ) → Writes m r out w out' → Exactly (write_tests m r out) (written_paper w)
+  pub write_numbers : (w : Written) (out' : List ℕ) → Writes m r out w out' → Exactly (write_tests m r out) (written_paper w)
   unfolding Writes
-  write-numbers w out' a = exactly tt a
+  write_numbers w out' a = exactly tt a
 
 -- ---- what it takes to be read
 module _ (s : List ℕ) (k : Kind) (m : ℕ) (r : Record) where
@@ -103,7 +103,7 @@ module _ (s : List ℕ) (k : Kind) (m : ℕ) (r : Record) where
 
   none_fits_lem : IsRead s k m r → first_of (read_tests s k) ≡ 0
   none_fits_lem i =
-      let p = sound-then (number_of s) (record { sound = i.sound; idle = i.idle }) after in
+      let p = sound_then (number_of s) (record { sound = i.sound; idle = i.idle }) after in
       rw (i.shape, p.0, i.numbered, i.place, eq-eqb _ 0 i.range)
 
   pub reads : IsRead s k m r → Reads s k (Read m r)
@@ -124,7 +124,7 @@ module _ (s : List ℕ) (k : Kind) (m : ℕ) (r : Record) where
       let ts = read_tests s k in
       let z = first_given ts (number_in n ∷ kind_number k ∷ []) a.answer in
       let shape = past_first 1 (misshapen s) (sound_tests (number_of s) ++ after) z in
-      let sound = sound-first (number_of s) after shape.1 in
+      let sound = sound_first (number_of s) after shape.1 in
       let numbered = past_first 4 (eqb (number_in n) 0) (drop 1 after) sound.1 in
       let place = past_first 10 (not (of_kind k (number_in n))) (drop 2 after) numbered.1 in
       let range = past_first 9 (not (eqb (first_bad (layout k) (values_of n (layout k))) 0)) (drop 3 after) place.1 in
@@ -151,7 +151,7 @@ module _ (m : ℕ) (r : Record) (out out' : List ℕ) where
   pub is_written : Writes m r out Done out' → IsWritten m r out out'
   unfolding Writes
   is_written a =
-      let clear = (write-numbers m r out Done out' a).taken.0 refl in
+      let clear = (write_numbers m r out Done out' a).taken.0 refl in
       record {
         room = eqb-true _ 11 (not-false _ (unfit (no_room out) (clear 0 (lit< tt))));
         place = not-false _ (unfit (not (of_kind (kind_of r) m)) (clear 1 (lit< tt)));
@@ -167,12 +167,12 @@ module _ (m d : ℕ) (h : m ≤ 15) (l : d < 2 ^ 80) where
   made_lt : made < 2 ^ 85
   made_lt = encode_lt (m * 2 ^ 80 + d) (omega arith)
 
-  made-idle : bit_of made 85 ≡ 0
-  made-idle = bit_same made (m * 2 ^ 80 + d) 85 (encode_stays (m * 2 ^ 80 + d)) (lit≤ tt) ∙ omega arith
+  made_idle : bit_of made 85 ≡ 0
+  made_idle = bit_same made (m * 2 ^ 80 + d) 85 (encode_stays (m * 2 ^ 80 + d)) (lit≤ tt) ∙ omega arith
 
-  made-number : number_in made ≡ m
+  made_number : number_in made ≡ m
   unfolding word_of
-  made-number = word_same made (m * 2 ^ 80 + d) 84 81 (encode_stays (m * 2 ^ 80 + d)) (lit≤ tt) ∙ omega arith
+  made_number = word_same made (m * 2 ^ 80 + d) 84 81 (encode_stays (m * 2 ^ 80 + d)) (lit≤ tt) ∙ omega arith
 
 -- ---- WRITTEN, THEN READ: what was written is read, with its m and every word, whatever the kind. That it was written says that `out` had room, that
 -- m is of the kind and that every word is in range
@@ -183,59 +183,59 @@ module _ (m : ℕ) (r : Record) (out out' : List ℕ) (a : Writes m r out Done o
   facts : IsWritten m r out out'
   facts = is_written m r out out' a
 
-  m-lt : m ≤ 15
-  m-lt = (of_kind_lem (kind_of r) m facts.place).1
+  m_lt : m ≤ 15
+  m_lt = (of_kind_lem (kind_of r) m facts.place).1
 
-  words-lt : words_of < 2 ^ 80
-  words-lt = kind_data_lt (kind_of r) (list_of r) (list_long r) facts.range
+  words_lt : words_of < 2 ^ 80
+  words_lt = kind_data_lt (kind_of r) (list_of r) (list_long r) facts.range
 
   -- the bytes of an encoded string whose idle bit is 0
-  pub written-whole : Whole out'
+  pub written_whole : Whole out'
   unfolding string_of
-  written-whole =
+  written_whole =
       record {
-        number = made m words_of m-lt words-lt;
-        small = made_lt m words_of m-lt words-lt;
+        number = made m words_of m_lt words_lt;
+        small = made_lt m words_of m_lt words_lt;
         bytes = facts.output;
         encoded = encode_encoded (m * 2 ^ 80 + words_of);
-        idle = made-idle m words_of m-lt words-lt;
+        idle = made_idle m words_of m_lt words_lt;
       }
 
-  written-number : number_of out' ≡ made m words_of m-lt words-lt
+  written_number : number_of out' ≡ made m words_of m_lt words_lt
   unfolding string_of
-  written-number = ap number_of facts.output ∙ string_number_lem (made m words_of m-lt words-lt) (made_lt m words_of m-lt words-lt)
+  written_number = ap number_of facts.output ∙ string_number_lem (made m words_of m_lt words_lt) (made_lt m words_of m_lt words_lt)
 
   -- which has m and the values of the record
-  pub written-values : (number_in (number_of out') ≡ m) × (values_of (number_of out') (layout (kind_of r)) ≡ list_of r)
-  written-values =
+  pub written_values : (number_in (number_of out') ≡ m) × (values_of (number_of out') (layout (kind_of r)) ≡ list_of r)
+  written_values =
       let k = kind_of r in
       let x = m * 2 ^ 80 + words_of in (
-        ap number_in written-number ∙ made-number m words_of m-lt words-lt,
-        ap (λ (n : ℕ). values_of n (layout k)) written-number
-            ∙ kind-values-same k (encode x) x (encode_stays x) ∙ kind-values k (list_of r) (list_long r) facts.range m,
+        ap number_in written_number ∙ made_number m words_of m_lt words_lt,
+        ap (λ (n : ℕ). values_of n (layout k)) written_number
+            ∙ kind_values_same k (encode x) x (encode_stays x) ∙ kind_values k (list_of r) (list_long r) facts.range m,
       )
 
   -- which the public check takes as clean
   pub written_clean : (room left : List ℕ) (c : Checked) → length room ≡ 11 → Checks out' room c left → (c ≡ Taken Clean) × (left ≡ out')
   written_clean room left c n b =
-      let w = written-whole in
-      let e = encoded-clean w.number w.small w.encoded room n c left w.idle (subst (λ (s : List ℕ). Checks s room c left) w.bytes b) in
+      let w = written_whole in
+      let e = encoded_clean w.number w.small w.encoded room n c left w.idle (subst (λ (s : List ℕ). Checks s room c left) w.bytes b) in
       (e.0, e.1 ∙ sym w.bytes)
 
-  written_read : Reads (bytes_of_string (made m words_of m-lt words-lt)) (kind_of r) (Read m r)
+  written_read : Reads (bytes_of_string (made m words_of m_lt words_lt)) (kind_of r) (Read m r)
   written_read =
       let k = kind_of r in
       let x = m * 2 ^ 80 + words_of in
-      let n = made m words_of m-lt words-lt in
-      let b : number_of (bytes_of_string n) ≡ n = string_number_lem n (made_lt m words_of m-lt words-lt) in
+      let n = made m words_of m_lt words_lt in
+      let b : number_of (bytes_of_string n) ≡ n = string_number_lem n (made_lt m words_of m_lt words_lt) in
       let e : mended (number_of (bytes_of_string n)) ≡ n = ap mended b ∙ mended_by_lem n Clean (encoded_ruling n (encode_encoded x)) in
-      let i = made-number m words_of m-lt words-lt in
-      let v : values_of n (layout k) ≡ list_of r = kind-values-same k n x (encode_stays x) ∙ kind-values k (list_of r) (list_long r) facts.range m in
+      let i = made_number m words_of m_lt words_lt in
+      let v : values_of n (layout k) ≡ list_of r = kind_values_same k n x (encode_stays x) ∙ kind_values k (list_of r) (list_long r) facts.range m in
       reads (bytes_of_string n) k m r
       (record {
-        shape = string_shaped n (made_lt m words_of m-lt words-lt);
+        shape = string_shaped n (made_lt m words_of m_lt words_lt);
         sound = rw (b, encoded_ruling n (encode_encoded x));
-        idle = rw (e, made-idle m words_of m-lt words-lt);
+        idle = rw (e, made_idle m words_of m_lt words_lt);
         numbered = rw (e, i) (ne_eqb m 0 (omega (arith, (of_kind_lem k m facts.place).0)));
         place = rw (e, i) facts.place;
         range = rw (e, v) facts.range;
@@ -246,45 +246,45 @@ module _ (m : ℕ) (r : Record) (out out' : List ℕ) (a : Writes m r out Done o
 
   pub written_then_read : (q : Reading) → Reads out' (kind_of r) q → q ≡ Read m r
   unfolding string_of
-  written_then_read q b = read-once out' (kind_of r) q (Read m r) b (subst (λ (s : List ℕ). Reads s (kind_of r) (Read m r)) (sym facts.output) written_read)
+  written_then_read q b = read_once out' (kind_of r) q (Read m r) b (subst (λ (s : List ℕ). Reads s (kind_of r) (Read m r)) (sym facts.output) written_read)
 
   -- ---- WHAT IS WRITTEN IS TIDY, of every record: no minus zero, no reserved bit at 1
-  word-written : (j : ℕ) → j < 8 → bits_in (number_of out') (word_at (kind_of r) j) ≡ code_in (word_at (kind_of r) j) (get_or (list_of r) j (pos 0))
-  word-written j l =
+  word_written : (j : ℕ) → j < 8 → bits_in (number_of out') (word_at (kind_of r) j) ≡ code_in (word_at (kind_of r) j) (get_or (list_of r) j (pos 0))
+  word_written j l =
       let ws = layout (kind_of r) in
       let w = word_at (kind_of r) j in
       let x = m * 2 ^ 80 + words_of in
-      ap (λ (n : ℕ). bits_in n w) written-number
+      ap (λ (n : ℕ). bits_in n w) written_number
       ∙ word_same (encode x) x w.top w.low (encode_stays x) (sound_at 80 ws (layout_laid (kind_of r)) j).above
       ∙ word_data ws (list_of r) m 80 (layout_laid (kind_of r)) (list_long r ∙ sym (layout_long (kind_of r))) (kind_fit (kind_of r) (list_of r) (list_long r) facts.range) j (omega (arith, layout_long (kind_of r)))
 
-  sign-written : (j : ℕ) → j < 8 → (word_at (kind_of r) j).form ≡ Signed → bits_in (number_of out') (word_at (kind_of r) j) ≡ 2 ^ ((word_at (kind_of r) j).top - (word_at (kind_of r) j).low) → ⊥
-  sign-written j l f e =
+  sign_written : (j : ℕ) → j < 8 → (word_at (kind_of r) j).form ≡ Signed → bits_in (number_of out') (word_at (kind_of r) j) ≡ 2 ^ ((word_at (kind_of r) j).top - (word_at (kind_of r) j).low) → ⊥
+  sign_written j l f e =
       let ws = layout (kind_of r) in
       let w = word_at (kind_of r) j in
       let z = get_or (list_of r) j (pos 0) in
-      let t = subst (λ (g : Form). T (form_test g w)) f (form-test w (test_at_lem 80 ws (layout_laid (kind_of r)) j)) in
+      let t = subst (λ (g : Form). T (form_test g w)) f (form_test_lem w (test_at_lem 80 ws (layout_laid (kind_of r)) j)) in
       let i = range_at ws (list_of r) 80 (layout_laid (kind_of r)) (list_long r ∙ sym (layout_long (kind_of r))) facts.range j (omega (arith, layout_long (kind_of r))) in
-      never_minus_zero (half_of w) z (signed-near w t z i)
-      (ap (λ (g : Form). code_as g (half_of w) z) (sym f) ∙ sym (word-written j l) ∙ e)
+      never_minus_zero (half_of w) z (signed_near w t z i)
+      (ap (λ (g : Form). code_as g (half_of w) z) (sym f) ∙ sym (word_written j l) ∙ e)
 
-  gap-written : (i : ℕ) → 9 ≤ i → i ≤ 80 → in_words (layout (kind_of r)) i ≡ false → bit_of (number_of out') i ≡ 0
-  gap-written i l u g =
+  gap_written : (i : ℕ) → 9 ≤ i → i ≤ 80 → in_words (layout (kind_of r)) i ≡ false → bit_of (number_of out') i ≡ 0
+  gap_written i l u g =
       let x = m * 2 ^ 80 + words_of in
-      ap (λ (n : ℕ). bit_of n i) written-number ∙ bit_same (encode x) x i (encode_stays x) l
+      ap (λ (n : ℕ). bit_of n i) written_number ∙ bit_same (encode x) x i (encode_stays x) l
       ∙ gap_data (layout (kind_of r)) (list_of r) m 80 (layout_laid (kind_of r)) (kind_fit (kind_of r) (list_of r) (list_long r) facts.range) i (omega arith) u g
 
-  pub written-tidy : NoStray (kind_of r) (number_of out')
-  written-tidy =
+  pub written_tidy : NoStray (kind_of r) (number_of out')
+  written_tidy =
       record {
         no_minus_zero = λ j l f s z. let w = word_at (kind_of r) j in
             let p = placed_at (kind_of r) j l in
             let n = number_of out' in
             let e : word_of n w.top w.low ≡ 1 * 2 ^ (w.top - w.low) + 0 =
             word_split n w.top w.low p.first (p.sign f) ∙ ap₂ (λ (a b : ℕ). a * 2 ^ (w.top - w.low) + b) s z in
-            sign-written j l f (e ∙ omega arith);
-        unused = gap-written;
-        printed = λ i t. let p = reserved_free (kind_of r) i t in gap-written i p.0.0 p.0.1 p.1;
+            sign_written j l f (e ∙ omega arith);
+        unused = gap_written;
+        printed = λ i t. let p = reserved_free (kind_of r) i t in gap_written i p.0.0 p.0.1 p.1;
       }
 
 -- ---- the reader goes by the shape, the check's tests and the string as the check leaves it
@@ -303,7 +303,7 @@ flip_reads_alike n i h v l u ne k q p a b =
     let c = encoded_ruling n v in
     let e : mended m ≡ mended n = mended_by_lem m (Repaired i) r ∙ flip_undo 85 n i h l u ∙ sym (mended_by_lem n Clean c) in
     let d : sound_tests m ≡ sound_tests n = sound_same m n (ap is_damaged r) (ap is_damaged c) e in
-    read-once (bytes_of_string n) k q p
+    read_once (bytes_of_string n) k q p
     (reads_by (bytes_of_string m) (bytes_of_string n) k q (string_shaped m g ∙ sym (string_shaped n h))
     (ap sound_tests (string_number_lem m g) ∙ d ∙ sym (ap sound_tests (string_number_lem n h)))
     (ap mended (string_number_lem m g) ∙ e ∙ sym (ap mended (string_number_lem n h))) a) b
@@ -318,7 +318,7 @@ read_then_written s k m r out w out' a b h =
     let n = mended (number_of s) in
     let x : m * 2 ^ 80 + data_of (layout (kind_of r)) (list_of r) ≡ number_in n * 2 ^ 80 + tidy_words n (layout k) =
     ap₂ (λ (a b : ℕ). a * 2 ^ 80 + b) i.number (ap₂ (λ (k : Kind) (zs : List ℤ). data_of (layout k) zs) i.kind i.words ∙ data_values n (layout k) 80 (layout_laid k)) in
-    let e = write-once m r out w Done out' _ b
+    let e = write_once m r out w Done out' _ b
     (writes m r out (bytes_of_string (string_of m r))
     (record {
       room = h;
@@ -354,8 +354,8 @@ tidied_is k n =
     (record {
       small = made_lt m d h l;
       encoded = encode_encoded x;
-      idle = made-idle m d h l;
-      number = made-number m d h l;
+      idle = made_idle m d h l;
+      number = made_number m d h l;
       words = λ j b. let c : j < length ws = omega (arith, layout_long k) in
           let w = word_at k j in
           word_same (encode x) x w.top w.low (encode_stays x) (sound_at 80 ws (layout_laid k) j).above
@@ -397,27 +397,27 @@ module _ (k : Kind) (n t u : ℕ) (a : Tidy k n t) (b : Tidy k n u) where
   high_bit i l h =
       bit_in_word t i 84 81 (lit≤ tt) l h ∙ ap (λ (x : ℕ). x / 2 ^ (i - 81) % 2) (a.number ∙ sym b.number) ∙ sym (bit_in_word u i 84 81 (lit≤ tt) l h)
 
-  each-bit : (i : ℕ) → 9 ≤ i → i ≤ 85 → bit_of t i ≡ bit_of u i
-  each-bit i l h =
+  each_bit : (i : ℕ) → 9 ≤ i → i ≤ 85 → bit_of t i ≡ bit_of u i
+  each_bit i l h =
       ⊎_elim (λ (m : i < 81). data_bit i l (omega arith) (in_words (layout k) i) refl)
       (⊎_elim (λ (e : i ≡ 81). high_bit i (omega arith) (omega arith))
       (λ (m : 81 < i). ⊎_elim (λ (m' : i < 85). high_bit i (omega arith) (omega arith))
       (⊎_elim (λ (e : i ≡ 85). ap (bit_of t) e ∙ a.idle ∙ sym (ap (bit_of u) e ∙ b.idle)) (λ (m' : 85 < i). absurd (omega arith))) (three i 85)))
       (three i 81)
 
-  shifted-bit : (x i : ℕ) → 1 ≤ i → bit_of (x / 2 ^ 8) i ≡ bit_of x (i + 8)
-  shifted-bit x i l = ap (λ (y : ℕ). y % 2) (shr-shr x 8 (i - 1)) ∙ ap (λ (j : ℕ). x / 2 ^ j % 2) (omega arith)
+  shifted_bit : (x i : ℕ) → 1 ≤ i → bit_of (x / 2 ^ 8) i ≡ bit_of x (i + 8)
+  shifted_bit x i l = ap (λ (y : ℕ). y % 2) (shr-shr x 8 (i - 1)) ∙ ap (λ (j : ℕ). x / 2 ^ j % 2) (omega arith)
 
   high_same : u / 2 ^ 8 ≡ t / 2 ^ 8
   high_same =
       bits_same 77 (u / 2 ^ 8) (t / 2 ^ 8) (omega (arith, b.small)) (omega (arith, a.small))
-      (λ i l h. shifted-bit u i l ∙ sym (each-bit (i + 8) (omega arith) (omega arith)) ∙ sym (shifted-bit t i l))
+      (λ i l h. shifted_bit u i l ∙ sym (each_bit (i + 8) (omega arith) (omega arith)) ∙ sym (shifted_bit t i l))
 
-  pub tidy-once : t ≡ u
-  tidy-once = encoded_once t t a.small a.small a.encoded refl ∙ sym (encoded_once t u a.small b.small b.encoded high_same)
+  pub tidy_once : t ≡ u
+  tidy_once = encoded_once t t a.small a.small a.encoded refl ∙ sym (encoded_once t u a.small b.small b.encoded high_same)
 
 pub tidied_only : (k : Kind) (n t : ℕ) → Tidy k n t → t ≡ tidied k n
-tidied_only k n t a = tidy-once k n t (tidied k n) a (tidied_is k n)
+tidied_only k n t a = tidy_once k n t (tidied k n) a (tidied_is k n)
 
 -- so an encoded string with its idle bit, its reserved bits and no minus zero as the encoder writes them comes back byte for byte
 pub comes_back : (s : List ℕ) (k : Kind) (m : ℕ) (r : Record) (out : List ℕ) (w : Written) (out' : List ℕ) → Bytes s → Tidy k (number_of s) (number_of s)

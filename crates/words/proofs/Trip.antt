@@ -29,7 +29,7 @@ use Rattle.words.specs.Values.{carrier_of, carrier_code, value_in, code_in, in_r
 use Rattle.layout.specs.Reserved.{in_words}
 use Rattle.words.specs.Tidied.{is_signed, bits_in, tidy_word, tidy_words}
 use Rattle.words.proofs.Forms.{Bare, plain_bare, time_bare, interval_bare, day_bare, slot_bare}
-use Rattle.words.proofs.Fits.{half_of, plain_test, form_test, form-test, test_at_lem, Sound, signed-near, carrier-wide, carrier-near, plain-pos}
+use Rattle.words.proofs.Fits.{half_of, plain_test, form_test, form_test_lem, test_at_lem, Sound, signed_near, carrier_wide, carrier_near, plain_pos}
 use Rattle.words.proofs.Fits.{laid, laid_of, top_laid, Fit, fit_rest, data_lt, range_at, range_fit, layout_laid}
 use Rattle.words.proofs.WordBits.{word_lt}
 use Rattle.layout.proofs.Rows.{layout_long}
@@ -87,33 +87,33 @@ pub record Trips (w : Word) : Type 0 where
   pub clean : (raw : ℕ) → raw < 2 ^ width w → code_in w (value_in w raw) ≡ tidy_word w raw
 
 module _ (w : Word) where
-  bare-trips : Bare w.form → T (plain_test w) → Trips w
-  bare-trips b t =
+  bare_trips : Bare w.form → T (plain_test w) → Trips w
+  bare_trips b t =
       record {
-        back = λ z e. b.value (half_of w) (code_in w z) ∙ ap pos (b.code (half_of w) z) ∙ plain-pos w t z e;
+        back = λ z e. b.value (half_of w) (code_in w z) ∙ ap pos (b.code (half_of w) z) ∙ plain_pos w t z e;
         clean = λ raw h. ap (code_in w) (b.value (half_of w) raw) ∙ b.code (half_of w) (pos raw) ∙ rw b.unsigned;
       }
 
   -- by its form
-  trips-by : (f : Form) → w.form ≡ f → T (form_test f w) → Trips w
-  trips-by Plain p t = bare-trips (rw p plain_bare) t
-  trips-by Signed p t =
+  trips_by : (f : Form) → w.form ≡ f → T (form_test f w) → Trips w
+  trips_by Plain p t = bare_trips (rw p plain_bare) t
+  trips_by Signed p t =
       record {
-        back = λ z e. rw p (signed_back (half_of w) z (signed-near w t z e));
+        back = λ z e. rw p (signed_back (half_of w) z (signed_near w t z e));
         clean = λ raw h. rw p (signed_clean (half_of w) raw);
       }
-  trips-by Time p t = bare-trips (rw p time_bare) t
-  trips-by Interval p t = bare-trips (rw p interval_bare) t
-  trips-by Day p t = bare-trips (rw p day_bare) t
-  trips-by Slot p t = bare-trips (rw p slot_bare) t
-  trips-by Carrier p t =
+  trips_by Time p t = bare_trips (rw p time_bare) t
+  trips_by Interval p t = bare_trips (rw p interval_bare) t
+  trips_by Day p t = bare_trips (rw p day_bare) t
+  trips_by Slot p t = bare_trips (rw p slot_bare) t
+  trips_by Carrier p t =
       record {
-        back = λ z e. let b = carrier-near w t z e in rw p (carrier_back z b.0 b.1);
-        clean = λ raw h. rw p (carrier_clean raw (rw (carrier-wide w t) at h));
+        back = λ z e. let b = carrier_near w t z e in rw p (carrier_back z b.0 b.1);
+        clean = λ raw h. rw p (carrier_clean raw (rw (carrier_wide w t) at h));
       }
 
 pub trips_at : (t : ℕ) (ws : List Word) → T (laid t ws) → (j : ℕ) → Trips (get_or ws j none)
-trips_at t ws d j = let w = get_or ws j none in trips-by w w.form refl (form-test w (test_at_lem t ws d j))
+trips_at t ws d j = let w = get_or ws j none in trips_by w w.form refl (form_test_lem w (test_at_lem t ws d j))
 
 -- ---- one word in a number, at any place and of any width
 -- what stands above the word and the word itself are one number above what lies below
@@ -278,15 +278,15 @@ data_values n (w ∷ ws) t d =
 
 module _ (k : Kind) where
   -- WRITTEN AND READ, of any kind: whatever h stands above the data
-  pub kind-values : (zs : List ℤ) → length zs ≡ 8 → first_bad (layout k) zs ≡ 0 → (h : ℕ) → values_of (h * 2 ^ 80 + data_of (layout k) zs) (layout k) ≡ zs
-  kind-values zs n e h = values_data (layout k) zs h 80 (layout_laid k) (n ∙ sym (layout_long k)) e
+  pub kind_values : (zs : List ℤ) → length zs ≡ 8 → first_bad (layout k) zs ≡ 0 → (h : ℕ) → values_of (h * 2 ^ 80 + data_of (layout k) zs) (layout k) ≡ zs
+  kind_values zs n e h = values_data (layout k) zs h 80 (layout_laid k) (n ∙ sym (layout_long k)) e
 
-  pub kind-data-high : (zs : List ℤ) → data_of (layout k) zs % 2 ^ 8 ≡ 0
-  kind-data-high zs = data_high (layout k) zs 80 (layout_laid k)
+  pub kind_data_high : (zs : List ℤ) → data_of (layout k) zs % 2 ^ 8 ≡ 0
+  kind_data_high zs = data_high (layout k) zs 80 (layout_laid k)
 
-  pub kind-values-long : (n : ℕ) → length (values_of n (layout k)) ≡ 8
-  kind-values-long n = values_long n (layout k) ∙ layout_long k
+  pub kind_values_long : (n : ℕ) → length (values_of n (layout k)) ≡ 8
+  kind_values_long n = values_long n (layout k) ∙ layout_long k
 
   -- the check bits say nothing of the words
-  pub kind-values-same : (a b : ℕ) → a / 2 ^ 8 ≡ b / 2 ^ 8 → values_of a (layout k) ≡ values_of b (layout k)
-  kind-values-same a b e = values_same a b (layout k) 80 (layout_laid k) e
+  pub kind_values_same : (a b : ℕ) → a / 2 ^ 8 ≡ b / 2 ^ 8 → values_of a (layout k) ≡ values_of b (layout k)
+  kind_values_same a b e = values_same a b (layout k) 80 (layout_laid k) e

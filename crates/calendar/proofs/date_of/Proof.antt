@@ -2,7 +2,7 @@
 use borrow.Author.Rules.{rules}
 use mathlib.Core.Path.{sym}
 use Rattle.calendar.specs.FourYears.{starts}
-use Rattle.calendar.proofs.Months.{by-table}
+use Rattle.calendar.proofs.Months.{by_table}
 use Rattle.calendar.proofs.date_of.Statement.{statement}
 use Rattle.calendar.proofs.date_of.Tie as tie
 
@@ -42,7 +42,7 @@ add-t19 c = search rules
 
 returns : tie.Need-returns
 unfolding starts
-returns c = let a = c.before.args in sym (by-table a.n c.month-of.result c.before.requires c.month-of.ensures)
+returns c = let a = c.before.args in sym (by_table a.n c.month-of.result c.before.requires c.month-of.ensures)
 
 pub date-of-spec : {M : Type 1} → statement M
 date-of-spec =

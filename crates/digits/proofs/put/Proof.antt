@@ -1,5 +1,5 @@
 -- `put` meets its contract (`Pieces`). Assumes nothing.
-use Rattle.digits.proofs.Pieces.{puts-copy}
+use Rattle.digits.proofs.Pieces.{puts_copy}
 use borrow.Author.Rules.{rules}
 use Rattle.digits.proofs.put.Statement.{statement}
 use Rattle.digits.proofs.put.Tie as tie
@@ -25,7 +25,7 @@ same_length c = search rules
 returns : tie.Need-returns
 returns c =
     let s = c.before.before.before.before.before.before in
-    puts-copy s.args.text.now s.args.at s.args.s.now _ s.requires c.before.before.copy.ensures.1
+    puts_copy s.args.text.now s.args.at s.args.s.now _ s.requires c.before.before.copy.ensures.1
 
 pub put_spec : {M : Type 1} → statement M
 put_spec =

@@ -2,7 +2,7 @@
 use Prim.Native.Nat.{◌-◌, ◌≤◌}
 use native.Mathlib.Omega.{arith}
 use Rattle.digits.proofs.Pieces.{puts_room}
-use Rattle.digits.proofs.Row.{RowSoFar, none_yet, room_next, room-last, one_more_lem, all-printed}
+use Rattle.digits.proofs.Row.{RowSoFar, none_yet, room_next, room_last, one_more_lem, all_printed}
 use borrow.Author.Rules.{rules}
 use Rattle.digits.proofs.put_numbers.Statement.{statement}
 use Rattle.digits.proofs.put_numbers.Tie as tie
@@ -52,7 +52,7 @@ put-number-requires-2 : tie.Need-put-number-requires-2 invariant-loop decreases-
 put-number-requires-2 c κs =
     let t = c.before.before in
     let a = t.before.before.before.before in
-    room-last 10 t.before.loop.invariant.0 a.requires.0 (omega (arith, t.before.loop.invariant.1, t.loop-test.false, a.requires.1))
+    room_last 10 t.before.loop.invariant.0 a.requires.0 (omega (arith, t.before.loop.invariant.1, t.loop-test.false, a.requires.1))
 
 same_length : tie.Need-same-length invariant-loop decreases-loop
 same_length c =
@@ -66,7 +66,7 @@ returns c =
     let n = c.before.before in
     let t = n.before.before.before in
     let l = t.before.loop in
-    all-printed l.invariant.0 (omega (arith, l.invariant.1, t.loop-test.false, t.before.before.before.before.requires.1)) n.put-number2.ensures
+    all_printed l.invariant.0 (omega (arith, l.invariant.1, t.loop-test.false, t.before.before.before.before.requires.1)) n.put-number2.ensures
 
 pub put-numbers-spec : {M : Type 1} → statement M
 put-numbers-spec =

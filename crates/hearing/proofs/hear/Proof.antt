@@ -1,7 +1,7 @@
 -- `hear` meets its contract: the relative code refuses, or the check decides (`Hearing`). Assumes nothing.
 use mathlib.Core.Path.{refl}
 use borrow.Author.Rules.{rules}
-use Rattle.hearing.proofs.Hearing.{hears-no, hears-on}
+use Rattle.hearing.proofs.Hearing.{hears_no, hears_on}
 use Rattle.hearing.proofs.hear.Statement.{statement}
 use Rattle.hearing.proofs.hear.Tie as tie
 
@@ -26,7 +26,7 @@ check-requires c κs = search rules
 returns : tie.Need-returns
 returns c =
     let d = c.before.before.before.before in
-    hears-no _ _ _ _ refl d.from_relative.ensures _ _ c.before.read.given.1
+    hears_no _ _ _ _ refl d.from_relative.ensures _ _ c.before.read.given.1
 
 same_length : tie.Need-same-length
 same_length c = search rules
@@ -35,7 +35,7 @@ returns-2 : tie.Need-returns-2
 returns-2 c =
     let k = c.before.before in
     let d = k.before.before.before.before.before.before in
-    hears-on _ _ _ _ refl d.from_relative.ensures _ _ k.before.before.before.enum_told.given.1 _ _ d.before.before.before.before.requires k.check.ensures
+    hears_on _ _ _ _ refl d.from_relative.ensures _ _ k.before.before.before.enum_told.given.1 _ _ d.before.before.before.before.requires k.check.ensures
 
 pub hear-spec : {M : Type 1} → statement M
 hear-spec =

@@ -7,7 +7,7 @@ use borrow.Author.Rules.{rules}
 use Rattle.station.specs.Queries.{FindsEntry}
 use Rattle.navigation_queries.specs.declared.CarrierFound.TheVariants.{Found}
 use Rattle.navigation_queries.specs.Carrier.{FindsCarrier}
-use Rattle.navigation_queries.proofs.Carrier.{carrier-refused, carrier-there}
+use Rattle.navigation_queries.proofs.Carrier.{carrier_refused, carrier_there}
 use Rattle.navigation_queries.proofs.carrier_of.Statement.{statement}
 use Rattle.navigation_queries.proofs.carrier_of.Tie as tie
 
@@ -24,7 +24,7 @@ odd-words-requires : tie.Need-odd-words-requires
 odd-words-requires c κs = search rules
 
 returns : tie.Need-returns
-returns c = let e = c.before.before.before in let a = e.before.args in carrier-refused a.st a.card a.slot _ (subst (FindsEntry a.st a.card a.slot) c.before.found.given.1 e.entry_of.ensures)
+returns c = let e = c.before.before.before in let a = e.before.args in carrier_refused a.st a.card a.slot _ (subst (FindsEntry a.st a.card a.slot) c.before.found.given.1 e.entry_of.ensures)
 
 returns-2 : tie.Need-returns-2
 returns-2 c =
@@ -33,7 +33,7 @@ returns-2 c =
     let w = c.before.odd-words.result in
     let same : to_z w32 (of_z w32 w.h) ≡ w.h = search rules in
     let found = subst (FindsEntry a.st a.card a.slot) c.before.before.before.found2.given.1 e.entry_of.ensures in
-    subst (λ (h : ℤ). FindsCarrier a.st a.card a.slot (Found h)) (sym same) (carrier-there a.st a.card a.slot _ w found c.before.odd-words.ensures)
+    subst (λ (h : ℤ). FindsCarrier a.st a.card a.slot (Found h)) (sym same) (carrier_there a.st a.card a.slot _ w found c.before.odd-words.ensures)
 
 pub carrier-of-spec : {M : Type 1} → statement M
 carrier-of-spec =

@@ -4,7 +4,7 @@ use borrow.Author.Rules.{rules}
 use Rattle.shows.proofs.Shows.{is_so, is_not}
 use Rattle.station.specs.Station.{no_row}
 use Rattle.station.proofs.Served.{opened, shut}
-use Rattle.navigation_queries.proofs.Five.{five_shut, five-missing, five-found}
+use Rattle.navigation_queries.proofs.Five.{five_shut, five_missing, five_found}
 use Rattle.navigation_queries.proofs.five_of.Statement.{statement}
 use Rattle.navigation_queries.proofs.five_of.Tie as tie
 
@@ -32,7 +32,7 @@ returns c =
     let g = c.before.before.before.before in
     let e = g.before.before in
     let a = e.before.args in
-    five-missing a.t1 a.card a.channel _ (opened a.card a.channel e.enter.ensures g.gate2.given.1) (is_not c.before.has-five.ensures c.if1.true)
+    five_missing a.t1 a.card a.channel _ (opened a.card a.channel e.enter.ensures g.gate2.given.1) (is_not c.before.has-five.ensures c.if1.true)
 
 five-words-requires : tie.Need-five-words-requires
 five-words-requires c κs = search rules
@@ -47,7 +47,7 @@ returns-3 c =
     let g = f.before.before.before.before in
     let e = g.before.before in
     let a = e.before.args in
-    five-found a.t1 a.card a.channel _ (opened a.card a.channel e.enter.ensures g.gate2.given.1) (is_so f.before.has-five.ensures f.if1.false) _ c.five-words.ensures
+    five_found a.t1 a.card a.channel _ (opened a.card a.channel e.enter.ensures g.gate2.given.1) (is_so f.before.has-five.ensures f.if1.false) _ c.five-words.ensures
 
 pub five-of-spec : {M : Type 1} → statement M
 five-of-spec =

@@ -5,12 +5,12 @@ use Prim.Native.Nat.{◌-◌}
 use native.Mathlib.Omega.{arith}
 use lib.ListN.{length}
 use borrow.Author.Rules.{rules}
-use Rattle.blocks.proofs.Steps.{moves, last-stays, goes_on, so_far, so_far_none, so_far_more, so-far-all}
+use Rattle.blocks.proofs.Steps.{moves, last_stays, goes_on, SoFar, so_far_none, so_far_more, so_far_all}
 use Rattle.blocks.proofs.handing.hand_over.Statement.{statement}
 use Rattle.blocks.proofs.handing.hand_over.Tie as tie
 
 abbrev invariant-loop : tie.invariant-loop
-invariant-loop card block next₀ at₀ next at = so_far next₀ card block next at
+invariant-loop card block next₀ at₀ next at = SoFar next₀ card block next at
 
 abbrev decreases-loop : tie.decreases-loop
 decreases-loop card block next₀ at₀ next at = length block - at
@@ -31,7 +31,7 @@ returns : tie.Need-returns invariant-loop decreases-loop
 returns c =
     let l = c.before.before in
     let t = l.before.before in
-    so-far-all t.before.loop.invariant t.take-field.ensures (last-stays t.take-field.ensures (sym l.is_last.ensures ∙ c.before.if1.true))
+    so_far_all t.before.loop.invariant t.take-field.ensures (last_stays t.take-field.ensures (sym l.is_last.ensures ∙ c.before.if1.true))
     c.Ended-by.ensures
 
 loop-less : tie.Need-loop-smaller invariant-loop decreases-loop

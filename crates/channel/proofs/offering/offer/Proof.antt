@@ -10,7 +10,7 @@ use Rattle.channel.specs.declared.Row.{Row}
 use Rattle.immediate.specs.Kept.{record_by}
 use Rattle.channel.specs.Row.{Held, held_in, held_of, holding, counted}
 use Rattle.channel.specs.Offers.{outcome_of, tells_record}
-use Rattle.channel.proofs.Settling.{placed_whole, offers-by}
+use Rattle.channel.proofs.Settling.{placed_whole, offers_by}
 use borrow.Author.Rules.{rules}
 use Rattle.channel.proofs.offering.offer.Statement.{statement}
 use Rattle.channel.proofs.offering.offer.Tie as tie
@@ -66,7 +66,7 @@ returns c =
     let j = c.before.before.before in
     let d = apart j in
     let told = c.before.before.told_with in
-    offers-by (given d) d.before.before.before.before.args.epoch _ (after d) d.offer-apart.result.answer _ d.offer-apart.ensures told.ensures
+    offers_by (given d) d.before.before.before.before.args.epoch _ (after d) d.offer-apart.result.answer _ d.offer-apart.ensures told.ensures
     (ap (tallied j.if1.row) c.count.ensures ∙ ap (λ (x : Row). tallied x (after_offer (outcome_of told.result) x.tallies)) (kept j))
 
 pub offer-spec : {M : Type 1} → statement M

@@ -2,7 +2,7 @@
 use Prim.Native.Nat.{ℕ, ◌+◌, ◌-◌, ◌*◌, ◌/◌, ◌%◌, ◌<◌}
 use native.Mathlib.Omega.{arith}
 use Rattle.decimals.specs.Decimal.{Scale}
-use Rattle.decimals.proofs.Scales.{Turned, one_of, one_is, one_pos, one_le, begins, goes_on, found, is-scale, is-nearest}
+use Rattle.decimals.proofs.Scales.{Turned, one_of, one_is, one_pos, one_le, begins, goes_on, found, is_scale, is_nearest}
 use Rattle.decimals.proofs.rounding.thirteen.Statement.{statement}
 use Rattle.decimals.proofs.rounding.thirteen.Tie as tie
 
@@ -77,8 +77,8 @@ returns c =
     let P = one_pos s.args.p s.requires.1 in
     let Q = one_le s.args.p s.requires.1 in
     rw (← one_is s.args.p s.requires.1) (
-      is-nearest s.args.a b l.q l.r l.k c.nearest.result s.requires.0 (omega arith) P Q (right d) l.invariant.same l.invariant.rest c.nearest.ensures,
-      is-scale s.args.a b l.q l.r l.k c.nearest.result s.requires.0 (omega arith) P Q (right d) l.invariant.same l.invariant.rest c.nearest.ensures,
+      is_nearest s.args.a b l.q l.r l.k c.nearest.result s.requires.0 (omega arith) P Q (right d) l.invariant.same l.invariant.rest c.nearest.ensures,
+      is_scale s.args.a b l.q l.r l.k c.nearest.result s.requires.0 (omega arith) P Q (right d) l.invariant.same l.invariant.rest c.nearest.ensures,
     )
 
 pub thirteen-spec : {M : Type 1} → statement M

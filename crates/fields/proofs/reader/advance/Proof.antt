@@ -196,14 +196,14 @@ module _ {M : Type 1} {𝓤 : Ura M} (𝓛 : Logic 𝓤) (at_mem : Memory → SP
 module _ {M : Type 1} {𝓤 : Ura M} (𝓛 : Logic 𝓤) (mem' : Memory → SProp 𝓤) (run : Routine → Fun 𝓤) where
   open 𝓛 use {H}
 
-  adv-walks : (C : Calls 𝓤 H) (Λ : Loops 𝓤 H) → FmC 𝓤 H 𝓛.laws C → Triple 𝓤 (C #fields·field-at) (FieldAt 𝓛 mem' run) → Walks 𝓛 adv.ended stayed (WpFn 𝓤 H C Λ code.function) (adv.clauses 𝓛 mem' run)
-  adv-walks C Λ fm known = walked 𝓛 adv.ended stayed (adv.clauses 𝓛 mem' run) (WpFn 𝓤 H C Λ code.function) (λ κs. (mut_vals, tt)) (λ κs. (mut_Tells (named 0) κs.0 (B κs.1.0), tt))
+  adv_walks : (C : Calls 𝓤 H) (Λ : Loops 𝓤 H) → FmC 𝓤 H 𝓛.laws C → Triple 𝓤 (C #fields·field-at) (FieldAt 𝓛 mem' run) → Walks 𝓛 adv.ended stayed (WpFn 𝓤 H C Λ code.function) (adv.clauses 𝓛 mem' run)
+  adv_walks C Λ fm known = walked 𝓛 adv.ended stayed (adv.clauses 𝓛 mem' run) (WpFn 𝓤 H C Λ code.function) (λ κs. (mut_vals, tt)) (λ κs. (mut_Tells (named 0) κs.0 (B κs.1.0), tt))
       (λ κs qs bounds a _ are. via 𝓤 _ (fst∗ 𝓤 _ (emp 𝓤)) (walk 𝓛 mem' run κs.0 κs.1.0 qs.0 qs.1.0 bounds a.0.ref_ptr.0 a.0.ref_ptr.1 a.0.ghost_name a.0.now C Λ fm known))
 
 adv_meets : {M : Type 1} {𝓤 : Ura M} (𝓛 : Logic 𝓤) (mem' : Memory → SProp 𝓤) (run : Routine → Fun 𝓤) (𝓣 : Tables 𝓤 𝓛.H) → Triple 𝓤 (𝓣.C #fields·field-at) (FieldAt 𝓛 mem' run)
     → Meets 𝓛 adv.signature (WpFn 𝓤 𝓛.H 𝓣.C 𝓣.Λ code.function) (adv.spec 𝓛 mem' run)
 adv_meets {𝓤 = 𝓤} 𝓛 mem' run 𝓣 known = walk_Meets 𝓛 adv.ended stayed (Goes-ref 𝓛 2 0 tt behind, tt) (adv.clauses 𝓛 mem' run) (WpFn 𝓤 𝓛.H 𝓣.C 𝓣.Λ code.function) (WpFn-mono 𝓤 𝓛.H 𝓛.laws 𝓣 code.function)
-    (adv-walks 𝓛 mem' run 𝓣.C 𝓣.Λ (fm_of 𝓤 𝓛.H 𝓛.laws 𝓣) known)
+    (adv_walks 𝓛 mem' run 𝓣.C 𝓣.Λ (fm_of 𝓤 𝓛.H 𝓛.laws 𝓣) known)
 
 pub advance-spec : {M : Type 1} → stated.statement M
 unfolding code.routine tables_of

@@ -140,51 +140,51 @@ module _ {M : Type 1} {𝓤 : Ura M} (𝓛 : Logic 𝓤) (at_mem : Memory → SP
   Own = (ShrSlice (named 0) κ u8).own_val s (v ∷ [])
 
   -- the calls: what each is passed, what it asks, and what is known of its result
-  abbrev to-new : (New 𝓛 at_mem run).Ghost
-  to-new = (((κ, tt), (q, tt), tt, (s, tt), (v ∷ [], tt)), tt)
+  abbrev to_new : (New 𝓛 at_mem run).Ghost
+  to_new = (((κ, tt), (q, tt), tt, (s, tt), (v ∷ [], tt)), tt)
 
-  goes-new : ent 𝓤 (⋆ 𝓛 ((‵ (flft κ q) ⊛ ‵ ftrue) ∷ ‵ Own ∷ [])) ((New 𝓛 at_mem run).pre to-new)
-  goes-new = qed 𝓛 ((‵ (flft κ q) ⊛ ‵ ftrue) ∷ ‵ Own ∷ []) ∵ nothing ! $ move ! (2 ∷ 0 ∷ []) $ fjoin ! $ move ! (1 ∷ 0 ∷ []) $ join ! $ frame ! $ done !
+  goes_new : ent 𝓤 (⋆ 𝓛 ((‵ (flft κ q) ⊛ ‵ ftrue) ∷ ‵ Own ∷ [])) ((New 𝓛 at_mem run).pre to_new)
+  goes_new = qed 𝓛 ((‵ (flft κ q) ⊛ ‵ ftrue) ∷ ‵ Own ∷ []) ∵ nothing ! $ move ! (2 ∷ 0 ∷ []) $ fjoin ! $ move ! (1 ∷ 0 ∷ []) $ join ! $ frame ! $ done !
 
-  new-said : (r : Reader) → ent 𝓤 (ensured 𝓛 new.ended (new.clauses 𝓛 at_mem run) (κ, tt) (s, tt) tt r) (fact 𝓤 ((r.src ≡ s) × (r.at ≡ 0)))
-  new-said r = ex_e 𝓤 _ (λ ws. snd∗ 𝓤 (sem 𝓛 (lasts new.ended (κ, tt) (s, tt) ws)) (fact 𝓤 ((r.src ≡ s) × (r.at ≡ 0))))
+  new_said : (r : Reader) → ent 𝓤 (ensured 𝓛 new.ended (new.clauses 𝓛 at_mem run) (κ, tt) (s, tt) tt r) (fact 𝓤 ((r.src ≡ s) × (r.at ≡ 0)))
+  new_said r = ex_e 𝓤 _ (λ ws. snd∗ 𝓤 (sem 𝓛 (lasts new.ended (κ, tt) (s, tt) ws)) (fact 𝓤 ((r.src ≡ s) × (r.at ≡ 0))))
 
-  abbrev to-moved : Reader → Val → (Moved 𝓛 at_mem run).Ghost
-  to-moved r u = (((κ, tt), (q, tt), tt, (r, (n, tt)), (u ∷ [], (vint w64 n ∷ [], tt))), tt)
+  abbrev to_moved : Reader → Val → (Moved 𝓛 at_mem run).Ghost
+  to_moved r u = (((κ, tt), (q, tt), tt, (r, (n, tt)), (u ∷ [], (vint w64 n ∷ [], tt))), tt)
 
-  goes_moved : (r : Reader) (u : Val) → ent 𝓤 (⋆ 𝓛 (‵ ((B (κ, tt)).own r (u ∷ [])) ∷ (‵ (flft κ q) ⊛ ‵ ftrue) ∷ [])) ((Moved 𝓛 at_mem run).pre (to-moved r u))
+  goes_moved : (r : Reader) (u : Val) → ent 𝓤 (⋆ 𝓛 (‵ ((B (κ, tt)).own r (u ∷ [])) ∷ (‵ (flft κ q) ⊛ ‵ ftrue) ∷ [])) ((Moved 𝓛 at_mem run).pre (to_moved r u))
   goes_moved r u =
       qed 𝓛 (‵ ((B (κ, tt)).own r (u ∷ [])) ∷ (‵ (flft κ q) ⊛ ‵ ftrue) ∷ []) ∵ nothing ! $ owned ! usize (Is usize) (uint_Makes 𝓛 w64) n _ (refl, fits) $ fjoin ! $ move ! (1 ∷ 0 ∷ []) $ fjoin ! $ move ! (1 ∷ 0 ∷ []) $ join ! $ frame ! $ done !
 
-  moved-said : (r r' : Reader) → ent 𝓤 (ensured 𝓛 moved.ended (moved.clauses 𝓛 at_mem run) (κ, tt) (r, (n, tt)) tt r') (fact 𝓤 ((r'.src ≡ r.src) × (r'.at ≡ n)))
-  moved-said r r' = ex_e 𝓤 _ (λ ws. snd∗ 𝓤 (sem 𝓛 (lasts moved.ended (κ, tt) (r, (n, tt)) ws)) (fact 𝓤 ((r'.src ≡ r.src) × (r'.at ≡ n))))
+  moved_said : (r r' : Reader) → ent 𝓤 (ensured 𝓛 moved.ended (moved.clauses 𝓛 at_mem run) (κ, tt) (r, (n, tt)) tt r') (fact 𝓤 ((r'.src ≡ r.src) × (r'.at ≡ n)))
+  moved_said r r' = ex_e 𝓤 _ (λ ws. snd∗ 𝓤 (sem 𝓛 (lasts moved.ended (κ, tt) (r, (n, tt)) ws)) (fact 𝓤 ((r'.src ≡ r.src) × (r'.at ≡ n))))
 
   -- the reader in its local, as what a `&mut` lends, and back
-  to-lies : (l : ℕ) (r : Reader) (w : Val) → ent 𝓤 (⋆ 𝓛 (‵ (fat full_share (T'.mir erased) l 0 w) ∷ ‵ ((R κ).own r (w ∷ [])) ∷ [])) (sem 𝓛 (part_at (R κ) full_share r l 0))
+  to_lies : (l : ℕ) (r : Reader) (w : Val) → ent 𝓤 (⋆ 𝓛 (‵ (fat full_share (T'.mir erased) l 0 w) ∷ ‵ ((R κ).own r (w ∷ [])) ∷ [])) (sem 𝓛 (part_at (R κ) full_share r l 0))
   unfolding part_of
-  to-lies l r w =
+  to_lies l r w =
       qed 𝓛 (‵ (fat full_share (T'.mir erased) l 0 w) ∷ ‵ ((R κ).own r (w ∷ [])) ∷ []) ∵ use1 𝓛 (‵ (cell_at full_share (R κ).mir (w ∷ []) l 0)) (𝓛.laws.at_raw full_share (T'.mir erased) l 0 w) $
       fjoin ! $ fpack ! (List Val) (λ us. fsep (cell_at full_share (R κ).mir us l 0) ((R κ).own r us)) (w ∷ []) $ done !
 
   abbrev Back : Reader → ℕ → Item 𝓤
   Back r l = given (Is (R κ) r (T'.lowered r ∷ [])) (‵ (fat full_share (T'.mir erased) l 0 (T'.lowered r)))
 
-  from-lies : (r : Reader) (l : ℕ) → ent 𝓤 (sem 𝓛 (part_at (R κ) full_share r l 0)) (mean 𝓛 (Back r l))
+  from_lies : (r : Reader) (l : ℕ) → ent 𝓤 (sem 𝓛 (part_at (R κ) full_share r l 0)) (mean 𝓛 (Back r l))
   unfolding part_of
-  from-lies r l =
+  from_lies r l =
       qed 𝓛 (‵ (part_at (R κ) full_share r l 0) ∷ []) ∵ fpick ! (λ vs. fsplit ! $ move ! (1 ∷ []) $ peeks ! (R κ) (Is (R κ)) (shows 𝓛 (R κ)) r vs (λ p. drop ! $
       rewrite ! 0 (λ (us : List Val). ‵ (cell_at full_share (R κ).mir us l 0)) (LL.tells (T.the_type (α κ)) (T'.the_laws (α κ)) r vs p) refl $
       use1 𝓛 (‵ (fat full_share (T'.mir erased) l 0 (T'.lowered r))) (𝓛.laws.raw_at full_share (T'.mir erased) l 0 (T'.lowered r)) $
       check ! (subst (Is (R κ) r) (LL.tells (T.the_type (α κ)) (T'.the_laws (α κ)) r vs p) p) $ done !))
 
-  abbrev ref-at : ℕ → GName → Reader → MutBor Reader
-  ref-at l γ r = record { ref_ptr = (l, 0); ghost_name = γ; now = r }
+  abbrev ref_at_lem : ℕ → GName → Reader → MutBor Reader
+  ref_at_lem l γ r = record { ref_ptr = (l, 0); ghost_name = γ; now = r }
 
-  abbrev to-adv : ℕ → ℕ → GName → Reader → (Adv 𝓛 at_mem run).Ghost
-  to-adv ν l γ r = (((ν ∷ κ, (κ, tt)), (PosShare.left q, (PosShare.right q, tt)), (meet_⊑_right (ν ∷ []) κ, tt), (ref-at l γ r, tt), (vptr l 0 ∷ [], tt)), tt)
+  abbrev to_adv : ℕ → ℕ → GName → Reader → (Adv 𝓛 at_mem run).Ghost
+  to_adv ν l γ r = (((ν ∷ κ, (κ, tt)), (PosShare.left q, (PosShare.right q, tt)), (meet_⊑_right (ν ∷ []) κ, tt), (ref_at_lem l γ r, tt), (vptr l 0 ∷ [], tt)), tt)
 
   abbrev Ref : ℕ → ℕ → GName → Reader → Item 𝓤
-  Ref ν l γ r = ‵ ((MutRef (named 0) (ν ∷ κ) (R κ)).own_val (ref-at l γ r) (vptr l 0 ∷ []))
+  Ref ν l γ r = ‵ ((MutRef (named 0) (ν ∷ κ) (R κ)).own_val (ref_at_lem l γ r) (vptr l 0 ∷ []))
 
   abbrev LeftOf : ℕ → Item 𝓤
   LeftOf ν = ‵ (flft (ν ∷ κ) (PosShare.left q))
@@ -192,8 +192,8 @@ module _ {M : Type 1} {𝓤 : Ura M} (𝓛 : Logic 𝓤) (at_mem : Memory → SP
   abbrev RightOf : Item 𝓤
   RightOf = ‵ (flft κ (PosShare.right q))
 
-  goes-adv : (ν l : ℕ) (γ : GName) (r : Reader) → ent 𝓤 (⋆ 𝓛 (Ref ν l γ r ∷ LeftOf ν ∷ RightOf ∷ [])) ((Adv 𝓛 at_mem run).pre (to-adv ν l γ r))
-  goes-adv ν l γ r =
+  goes_adv : (ν l : ℕ) (γ : GName) (r : Reader) → ent 𝓤 (⋆ 𝓛 (Ref ν l γ r ∷ LeftOf ν ∷ RightOf ∷ [])) ((Adv 𝓛 at_mem run).pre (to_adv ν l γ r))
+  goes_adv ν l γ r =
       qed 𝓛 (Ref ν l γ r ∷ LeftOf ν ∷ RightOf ∷ []) ∵ nothing ! $ move ! (1 ∷ 0 ∷ []) $ fjoin ! $ nothing ! $ move ! (3 ∷ 0 ∷ []) $ join ! $ move ! (2 ∷ 0 ∷ []) $ join ! $ join ! $ frame ! $ done !
 
   exits : (f : Field) (a : ℕ) → Finds s.now n f a → Is S.the_row (found f a) (S'.lowered (found f a) ∷ []) → ent 𝓤 (⋆ 𝓛 (‵ (flft κ (PosShare.left q)) ∷ (RightOf ⊛ ‵ ftrue) ∷ [])) (Post (S'.lowered (found f a)))
@@ -213,37 +213,37 @@ module _ {M : Type 1} {𝓤 : Ura M} (𝓛 : Logic 𝓤) (at_mem : Memory → SP
         qed 𝓛 ((‵ (flft κ q) ⊛ ‵ ftrue) ∷ ‵ (owns (ShrSlice (named 0) κ u8 ∷ usize ∷ []) (s, (n, tt)) at) ∷ []) ∵ enter ! C Λ code.function (v ∷ vint w64 n ∷ []) _ $
         alloc1 ! (λ l₀. alloc1 ! (λ l₁. alloc1 ! (λ l₂. alloc1 ! (λ l₃. alloc1 ! (λ l₄. alloc1 ! (λ l₅. alloc1 ! (λ l₆. alloc1 ! (λ l₇. alloc1 ! (λ l₈. alloc0 ! $ params1 ! $
         pass1 ! (init ! 14 refl ((shr_slice_Lawful 𝓛 (named 0) κ u8).typed s (v ∷ []) p).0) $ pass1 ! (init ! 12 refl (tt, record { fits = fits })) $ pass0 ! $
-        move ! (19 ∷ []) $ fsplit ! $ move ! (1 ∷ []) $ drop ! $ move ! (19 ∷ 0 ∷ []) $ use2 𝓛 (raw ((New 𝓛 at_mem run).pre to-new)) goes-new $
+        move ! (19 ∷ []) $ fsplit ! $ move ! (1 ∷ []) $ drop ! $ move ! (19 ∷ 0 ∷ []) $ use2 𝓛 (raw ((New 𝓛 at_mem run).pre to_new)) goes_new $
         -- [what `new` asks; room for _8; …; room for _7; …; room for _6; …; .. ; _2; …; _1; …; room for _0; …]
-        calls_at ! fm (New 𝓛 at_mem run) known-new to-new (and_then ! (load ! (from ! (stop !)) (look ! 15 refl)) (no_more !)) (λ u.
+        calls_at ! fm (New 𝓛 at_mem run) known-new to_new (and_then ! (load ! (from ! (stop !)) (look ! 15 refl)) (no_more !)) (λ u.
         use1 𝓛 (later (some (λ (r : Reader). ((‵ (flft κ q) ⊛ ‵ ftrue) ⊛ ‵ ((B (κ, tt)).own r (u ∷ []))) ⊛ raw (ensured 𝓛 new.ended (new.clauses 𝓛 at_mem run) (κ, tt) (s, tt) tt r)))) (id⊢ 𝓤 _) $ await ! tt $ pick ! (λ r.
-        split ! $ move ! (1 ∷ []) $ use1 𝓛 (raw (fact 𝓤 ((r.src ≡ s) × (r.at ≡ 0)))) (new-said r) $ heard ! ((r.src ≡ s) × (r.at ≡ 0)) (λ e. split ! $ move ! (1 ∷ []) $
+        split ! $ move ! (1 ∷ []) $ use1 𝓛 (raw (fact 𝓤 ((r.src ≡ s) × (r.at ≡ 0)))) (new_said r) $ heard ! ((r.src ≡ s) × (r.at ≡ 0)) (λ e. split ! $ move ! (1 ∷ []) $
         -- [what the reader owns; the token; room for _8; …; room for _7; …; room for _6; …]
         peeks ! (B (κ, tt)) (Is (B (κ, tt))) (shows 𝓛 (B (κ, tt))) r (u ∷ []) (λ is.
         land ! (from ! (stop !)) (init ! 6 refl (typed r u is)) $
-        use2 𝓛 (raw ((Moved 𝓛 at_mem run).pre (to-moved r u))) (goes_moved r u) $
-        calls_at ! fm (Moved 𝓛 at_mem run) known-moved (to-moved r u) (and_then ! (load ! (from ! (stop !)) (look ! 5 refl)) (and_then ! (load ! (from ! (stop !)) (look ! 13 refl)) (no_more !))) (λ w.
+        use2 𝓛 (raw ((Moved 𝓛 at_mem run).pre (to_moved r u))) (goes_moved r u) $
+        calls_at ! fm (Moved 𝓛 at_mem run) known-moved (to_moved r u) (and_then ! (load ! (from ! (stop !)) (look ! 5 refl)) (and_then ! (load ! (from ! (stop !)) (look ! 13 refl)) (no_more !))) (λ w.
         use1 𝓛 (later (some (λ (r' : Reader). ((‵ (flft κ q) ⊛ ‵ ftrue) ⊛ ‵ ((B (κ, tt)).own r' (w ∷ []))) ⊛ raw (ensured 𝓛 moved.ended (moved.clauses 𝓛 at_mem run) (κ, tt) (r, (n, tt)) tt r')))) (id⊢ 𝓤 _) $ await ! tt $ pick ! (λ r'.
-        split ! $ move ! (1 ∷ []) $ use1 𝓛 (raw (fact 𝓤 ((r'.src ≡ r.src) × (r'.at ≡ n)))) (moved-said r r') $ heard ! ((r'.src ≡ r.src) × (r'.at ≡ n)) (λ d. split ! $ move ! (1 ∷ []) $
+        split ! $ move ! (1 ∷ []) $ use1 𝓛 (raw (fact 𝓤 ((r'.src ≡ r.src) × (r'.at ≡ n)))) (moved_said r r') $ heard ! ((r'.src ≡ r.src) × (r'.at ≡ n)) (λ d. split ! $ move ! (1 ∷ []) $
         peeks ! (B (κ, tt)) (Is (B (κ, tt))) (shows 𝓛 (B (κ, tt))) r' (w ∷ []) (λ is'.
         land ! (from ! (stop !)) (init ! 8 refl (typed r' w is')) $
         assigns ! (of_opd ! (load ! (from ! (stop !)) (look ! 8 refl))) (from ! (stop !)) (init ! 12 refl (typed r' w is')) $
         assigns ! (addr ! (from ! (stop !))) (from ! (stop !)) (init ! 4 refl (tt, tt)) $
         -- [what the reader owns; the token; room for _8; …; _7; …; _6; …; _5; …; room for _4; …; _3; …; _2; …; _1; …; room for _0; …]
-        lft_new ! tt (λ ν. move ! (13 ∷ 1 ∷ []) $ use2 𝓛 (‵ (part_at (R κ) full_share r' l₃ 0)) (to-lies l₃ r' w) $
+        lft_new ! tt (λ ν. move ! (13 ∷ 1 ∷ []) $ use2 𝓛 (‵ (part_at (R κ) full_share r' l₃ 0)) (to_lies l₃ r' w) $
         use1 𝓛 (later (some (λ (γ : GName). Ref ν l₃ γ r' ⊛ ‵ (flent (ν ∷ κ) (Body (mem (R κ)) l₃ 0 γ))))) (lends_ref 𝓛 (R κ) (named 0) (ν ∷ κ) r' l₃ 0) $ await ! tt $ pick ! (λ γ. split ! $
         -- [the reference; the lender's part; ν's token; the token; room for _8; …; _7; …; _6; …; _5; …; room for _4; …; that _3 dies; _2; …]
         move ! (3 ∷ []) $ split ! $ use1 𝓛 (‵ (flft κ (PosShare.left q)) ⊛ RightOf) (𝓛.lfts.lft_split κ q) $ split ! $
         move ! (5 ∷ 0 ∷ []) $ use2 𝓛 (LeftOf ν ⊛ raw (Rest 𝓛 ν (PosShare.left q))) (within_token 𝓛 ν κ (PosShare.left q)) $ split ! $
-        move ! (4 ∷ 0 ∷ 2 ∷ []) $ use3 𝓛 (raw ((Adv 𝓛 at_mem run).pre (to-adv ν l₃ γ r'))) (goes-adv ν l₃ γ r') $
+        move ! (4 ∷ 0 ∷ 2 ∷ []) $ use3 𝓛 (raw ((Adv 𝓛 at_mem run).pre (to_adv ν l₃ γ r'))) (goes_adv ν l₃ γ r') $
         -- [what `advance` asks; the way back to ν's token; true; the lender's part; room for _8; …; _7; …]
-        calls_at ! fm (Adv 𝓛 at_mem run) known-adv (to-adv ν l₃ γ r') (and_then ! (load ! (from ! (stop !)) (look ! 6 refl)) (no_more !)) (λ u'.
-        use1 𝓛 (later (some (λ (f : Field). ((LeftOf ν ⊛ RightOf ⊛ ‵ ftrue) ⊛ ‵ ((F.the_row).own_val f (u' ∷ []))) ⊛ raw (ensured 𝓛 adv.ended (adv.clauses 𝓛 at_mem run) (ν ∷ κ, (κ, tt)) (ref-at l₃ γ r', tt) tt f)))) (id⊢ 𝓤 _) $ await ! tt $ pick ! (λ f.
-        split ! $ move ! (1 ∷ []) $ use1 𝓛 (some (λ (zs : Reader × Unit {0}). ‵ (lasts adv.ended (ν ∷ κ, (κ, tt)) (ref-at l₃ γ r', tt) zs) ⊛ raw (fact 𝓤 (Says r' f zs.0)))) (id⊢ 𝓤 _) $ pick ! (λ zs.
+        calls_at ! fm (Adv 𝓛 at_mem run) known-adv (to_adv ν l₃ γ r') (and_then ! (load ! (from ! (stop !)) (look ! 6 refl)) (no_more !)) (λ u'.
+        use1 𝓛 (later (some (λ (f : Field). ((LeftOf ν ⊛ RightOf ⊛ ‵ ftrue) ⊛ ‵ ((F.the_row).own_val f (u' ∷ []))) ⊛ raw (ensured 𝓛 adv.ended (adv.clauses 𝓛 at_mem run) (ν ∷ κ, (κ, tt)) (ref_at_lem l₃ γ r', tt) tt f)))) (id⊢ 𝓤 _) $ await ! tt $ pick ! (λ f.
+        split ! $ move ! (1 ∷ []) $ use1 𝓛 (some (λ (zs : Reader × Unit {0}). ‵ (lasts adv.ended (ν ∷ κ, (κ, tt)) (ref_at_lem l₃ γ r', tt) zs) ⊛ raw (fact 𝓤 (Says r' f zs.0)))) (id⊢ 𝓤 _) $ pick ! (λ zs.
         split ! $ move ! (1 ∷ []) $ heard ! (Says r' f zs.0) (λ e'. fsplit ! $ move ! (2 ∷ []) $ split ! $ split ! $
         -- [the token of ν and κ; κ's other token and true; the field; the reader's last value; …; the way back; true; the lender's part; room for _8; …]
         move ! (0 ∷ 5 ∷ []) $ use2 𝓛 (later (‵ (fdead (ν ∷ κ)) ⊛ ‵ (flft κ (PosShare.left q)))) (within_end 𝓛 ν κ (PosShare.left q)) $ await ! tt $ split ! $
-        move ! (0 ∷ 7 ∷ 4 ∷ []) $ use3 𝓛 (later (‵ (part_at (R κ) full_share zs.0 l₃ 0))) (ref_back 𝓛 (R κ) (ν ∷ κ) γ zs.0 l₃ 0) $ await ! tt $ use1 𝓛 (Back zs.0 l₃) (from-lies zs.0 l₃) $ learn ! (λ ist.
+        move ! (0 ∷ 7 ∷ 4 ∷ []) $ use3 𝓛 (later (‵ (part_at (R κ) full_share zs.0 l₃ 0))) (ref_back 𝓛 (R κ) (ν ∷ κ) γ zs.0 l₃ 0) $ await ! tt $ use1 𝓛 (Back zs.0 l₃) (from_lies zs.0 l₃) $ learn ! (λ ist.
         move ! (3 ∷ []) $ peeks ! F.the_row (Is F.the_row) (shows 𝓛 F.the_row) f (u' ∷ []) (λ ir. drop ! $
         -- [_3; κ's token; κ's other token and true; …; …; room for _8; …; _7; …; _6; …; _5; …; room for _4; …; that _3 dies; _2; …; _1; …; room for _0; …]
         land ! (from ! (stop !)) (init ! 13 refl ((EL.lawful F.the_type F'.the_laws 𝓛 tt).typed f _ ir).0) $
@@ -258,16 +258,16 @@ module _ {M : Type 1} {𝓤 : Ura M} (𝓛 : Logic 𝓤) (at_mem : Memory → SP
 module _ {M : Type 1} {𝓤 : Ura M} (𝓛 : Logic 𝓤) (at_mem : Memory → SProp 𝓤) (run : Routine → Fun 𝓤) where
   open 𝓛 use {H}
 
-  outer-walks : (C : Calls 𝓤 H) (Λ : Loops 𝓤 H) → FmC 𝓤 H 𝓛.laws C → Triple 𝓤 (C #fields·new) (New 𝓛 at_mem run) → Triple 𝓤 (C #fields·moved) (Moved 𝓛 at_mem run) → Triple 𝓤 (C #fields·advance) (Adv 𝓛 at_mem run)
+  outer_walks : (C : Calls 𝓤 H) (Λ : Loops 𝓤 H) → FmC 𝓤 H 𝓛.laws C → Triple 𝓤 (C #fields·new) (New 𝓛 at_mem run) → Triple 𝓤 (C #fields·moved) (Moved 𝓛 at_mem run) → Triple 𝓤 (C #fields·advance) (Adv 𝓛 at_mem run)
       → Walks 𝓛 outer.ended stayed (WpFn 𝓤 H C Λ code.function) (outer.clauses 𝓛 at_mem run)
-  outer-walks C Λ fm known-new known-moved known-adv = walked 𝓛 outer.ended stayed (outer.clauses 𝓛 at_mem run) (WpFn 𝓤 H C Λ code.function) (λ κs. (shr_slice_vals, (uint_vals w64, tt))) (λ κs. (shr_slice_Tells (named 0) κs.0 u8, (uint_Tells w64, tt)))
+  outer_walks C Λ fm known-new known-moved known-adv = walked 𝓛 outer.ended stayed (outer.clauses 𝓛 at_mem run) (WpFn 𝓤 H C Λ code.function) (λ κs. (shr_slice_vals, (uint_vals w64, tt))) (λ κs. (shr_slice_Tells (named 0) κs.0 u8, (uint_Tells w64, tt)))
       (λ κs qs bounds a g are. via 𝓤 _ (fst∗ 𝓤 _ (emp 𝓤)) (walk 𝓛 at_mem run κs.0 qs.0 a.0 a.1.0 are.1.0.1 C Λ fm known-new known-moved known-adv are.0))
 
 outer_meets : {M : Type 1} {𝓤 : Ura M} (𝓛 : Logic 𝓤) (at_mem : Memory → SProp 𝓤) (run : Routine → Fun 𝓤) (𝓣 : Tables 𝓤 𝓛.H)
     → Triple 𝓤 (𝓣.C #fields·new) (New 𝓛 at_mem run) → Triple 𝓤 (𝓣.C #fields·moved) (Moved 𝓛 at_mem run) → Triple 𝓤 (𝓣.C #fields·advance) (Adv 𝓛 at_mem run)
     → Meets 𝓛 outer.signature (WpFn 𝓤 𝓛.H 𝓣.C 𝓣.Λ code.function) (outer.spec 𝓛 at_mem run)
 outer_meets {𝓤 = 𝓤} 𝓛 at_mem run 𝓣 known-new known-moved known-adv = walk_Meets 𝓛 outer.ended stayed (Goes-dropped 𝓛 1 slot yes (λ κs x f. refl), (Goes-dropped 𝓛 1 (plain (λ _. usize)) yes (λ κs x f. refl), tt)) (outer.clauses 𝓛 at_mem run) (WpFn 𝓤 𝓛.H 𝓣.C 𝓣.Λ code.function) (WpFn-mono 𝓤 𝓛.H 𝓛.laws 𝓣 code.function)
-    (outer-walks 𝓛 at_mem run 𝓣.C 𝓣.Λ (fm_of 𝓤 𝓛.H 𝓛.laws 𝓣) known-new known-moved known-adv)
+    (outer_walks 𝓛 at_mem run 𝓣.C 𝓣.Λ (fm_of 𝓤 𝓛.H 𝓛.laws 𝓣) known-new known-moved known-adv)
 
 pub next-at-spec : {M : Type 1} → stated.statement M
 unfolding code.routine tables_of

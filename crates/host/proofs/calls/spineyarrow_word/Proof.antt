@@ -3,7 +3,7 @@ use mathlib.Core.Path.{ap}
 use Prim.Native.Nat.{ℕ}
 use native.Mathlib.Omega.{arith}
 use Rattle.host.specs.Host.{is_word}
-use Rattle.host.proofs.WordAnswers.{no_word_above, is_word_lem, of_word, word_none, word-refused, word-done}
+use Rattle.host.proofs.WordAnswers.{no_word_above, is_word_lem, of_word, word_none, word_refused, word_done}
 use borrow.Author.Rules.{rules}
 use Rattle.host.proofs.calls.spineyarrow_word.Statement.{statement}
 use Rattle.host.proofs.calls.spineyarrow_word.Tie as tie
@@ -29,7 +29,7 @@ read-kind-requires c κs = search rules
 returns-3 : tie.Need-returns-3
 returns-3 c =
     let n : ℕ = c.before.before.before.before.before.before.before.args.word in
-    word-refused _ n _ (is_word_lem n (omega arith) (omega arith)) (of_word _ n _ _ c.before.before.before.signed_word.ensures c.before.before.read-kind.ensures) _ c.if3.true
+    word_refused _ n _ (is_word_lem n (omega arith) (omega arith)) (of_word _ n _ _ c.before.before.before.signed_word.ensures c.before.before.read-kind.ensures) _ c.if3.true
 
 float-at-requires : tie.Need-float-at-requires
 float-at-requires c κs = search rules
@@ -37,7 +37,7 @@ float-at-requires c κs = search rules
 returns-4 : tie.Need-returns-4
 returns-4 c =
     let n : ℕ = c.before.before.before.before.before.before.before.before.before.args.word in
-    word-done _ n _ (is_word_lem n (omega arith) (omega arith)) (of_word _ n _ _ c.before.before.before.before.before.signed_word.ensures c.before.before.before.before.read-kind.ensures) _ _ (omega arith) (omega arith)
+    word_done _ n _ (is_word_lem n (omega arith) (omega arith)) (of_word _ n _ _ c.before.before.before.before.before.signed_word.ensures c.before.before.before.before.read-kind.ensures) _ _ (omega arith) (omega arith)
     c.before.before.if3.false c.Float-at.ensures
 
 pub spineyarrow-word-spec : {M : Type 1} → statement M

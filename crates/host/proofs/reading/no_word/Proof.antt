@@ -1,6 +1,6 @@
 -- `reading::no_word` meets its contract: what the check says, and then the string number. Assumes nothing.
 use mathlib.Core.Path.{refl, ◌∙◌}
-use Rattle.host.proofs.NoWord.{refused-no-word, taken-no-word}
+use Rattle.host.proofs.NoWord.{refused_no_word, taken_no_word}
 use borrow.Author.Rules.{rules}
 use Rattle.host.proofs.reading.no_word.Statement.{statement}
 use Rattle.host.proofs.reading.no_word.Tie as tie
@@ -33,12 +33,12 @@ told-by-number-requires : tie.Need-told-by-number-requires
 told-by-number-requires c κs = search rules
 
 returns : tie.Need-returns
-returns c = c.refusal-told.ensures ∙ refused-no-word _ _ _ _ refl c.before.before.before.before.before.check.ensures _ c.before.before.checked.given.1
+returns c = c.refusal-told.ensures ∙ refused_no_word _ _ _ _ refl c.before.before.before.before.before.check.ensures _ c.before.before.checked.given.1
 
 returns-2 : tie.Need-returns-2
 returns-2 c =
     c.told-by-number.ensures
-    ∙ taken-no-word _ _ _ _ refl c.before.before.before.before.before.before.check.ensures _ _ c.before.before.before.enum_told.given.1
+    ∙ taken_no_word _ _ _ _ refl c.before.before.before.before.before.before.check.ensures _ _ c.before.before.before.enum_told.given.1
     (λ i. (c.before.before.before.before.before.before.before.before.shared-slice-known.given i).fits) c.before.number_in.ensures
 
 pub no-word-spec : {M : Type 1} → statement M

@@ -1,6 +1,6 @@
 -- `reading::read_kind` meets its contract: by what the reader answers. Assumes nothing.
 use mathlib.Core.Path.{refl}
-use Rattle.host.proofs.Values.{kind-refused, kind-read}
+use Rattle.host.proofs.Values.{kind_refused, kind_read}
 use borrow.Author.Rules.{rules}
 use Rattle.host.proofs.reading.read_kind.Statement.{statement}
 use Rattle.host.proofs.reading.read_kind.Tie as tie
@@ -24,10 +24,10 @@ list-of-requires : tie.Need-list-of-requires
 list-of-requires c κs = search rules
 
 returns : tie.Need-returns
-returns c = kind-refused _ _ _ _ c.before.before.before.before.read-words.ensures _ c.before.before.read.given.1 c.refusal-told.ensures
+returns c = kind_refused _ _ _ _ c.before.before.before.before.read-words.ensures _ c.before.before.read.given.1 c.refusal-told.ensures
 
 returns-2 : tie.Need-returns-2
-returns-2 c = kind-read _ _ _ _ c.before.before.before.before.read-words.ensures _ _ c.before.before.read2.given.1 refl c.list_of.ensures
+returns-2 c = kind_read _ _ _ _ c.before.before.before.before.read-words.ensures _ _ c.before.before.read2.given.1 refl c.list_of.ensures
 
 pub read-kind-spec : {M : Type 1} → statement M
 read-kind-spec =

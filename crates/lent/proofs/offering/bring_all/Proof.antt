@@ -61,7 +61,7 @@ use Rattle.station.specs.contracts.Station as ST
 use Rattle.lent.specs.Lent.{BringsAll, BringsOne, SumsUp}
 use Rattle.lent.proofs.Item.{item, elem_is}
 use Rattle.lent.proofs.Turns.{turns, in_turn, or_before, one_in, all_brought_lem, all_changed}
-use Rattle.lent.proofs.Walk.{refTo, envOf, locals, free_all, keeps, local-of, sets, lends-on, addr-of}
+use Rattle.lent.proofs.Walk.{ref_to, env_of, locals, free_all, keeps, local_of, sets, lends_on, KIT addr_of}
 use Rattle.lent.specs.contracts.offering.bring_one as one'
 use Rattle.lent.proofs.offering.bring_one.Symbol as one_def
 use Rattle.lent.proofs.offering.bring_one.Symbol.{name as #lent·bring-one}
@@ -115,15 +115,15 @@ module _ {M : Type 1} {𝓤 : Ura M} (𝓛 : Logic 𝓤) (mem : Memory → SProp
 module _ {M : Type 1} {𝓤 : Ura M} (𝓛 : Logic 𝓤) (at_mem : Memory → SProp 𝓤) (run : Routine → Fun 𝓤) (κ : Lft) (q : Share) (b o : ℕ) (γ : GName) (h : Station) (xs : List Shown) where
   open 𝓛 use {H}
 
-  abbrev ref-at : GName → Station → MutBor Station
-  ref-at δ st = record { ref_ptr = (b, o); ghost_name = δ; now = st }
+  abbrev ref_at_lem : GName → Station → MutBor Station
+  ref_at_lem δ st = record { ref_ptr = (b, o); ghost_name = δ; now = st }
 
   -- the station's reference at a lifetime, under a name, at a station
   abbrev Ref : Lft → GName → Station → Item 𝓤
-  Ref = refTo 𝓤 ST.the_row b o
+  Ref = ref_to 𝓤 ST.the_row b o
 
   abbrev x : MutBor Station × (List Shown × Unit {0})
-  x = (ref-at γ h, (xs, tt))
+  x = (ref_at_lem γ h, (xs, tt))
 
   abbrev at : Vals all.signature (κ, tt)
   at = (vptr b o ∷ [], (showns_val xs ∷ [], tt))
@@ -143,7 +143,7 @@ module _ {M : Type 1} {𝓤 : Ura M} (𝓛 : Logic 𝓤) (at_mem : Memory → SP
 
   -- what the callees ask
   abbrev to_one : Station → Shown → Lft → GName → (One 𝓛 at_mem run).Ghost
-  to_one st y κ₁ δ = (((κ₁, tt), (full_share, tt), tt, (ref-at δ st, (y, tt)), (vptr b o ∷ [], (SH'.lowered y ∷ [], tt))), tt)
+  to_one st y κ₁ δ = (((κ₁, tt), (full_share, tt), tt, (ref_at_lem δ st, (y, tt)), (vptr b o ∷ [], (SH'.lowered y ∷ [], tt))), tt)
 
   goes_one : (st : Station) (y : Shown) → Is SH.the_row y (SH'.lowered y ∷ []) → InBook y → (κ₁ : Lft) (δ : GName)
       → ent 𝓤 (⋆ 𝓛 (Ref κ₁ δ st ∷ ‵ (flft κ₁ full_share) ∷ [])) ((One 𝓛 at_mem run).pre (to_one st y κ₁ δ))
@@ -151,17 +151,17 @@ module _ {M : Type 1} {𝓤 : Ura M} (𝓛 : Logic 𝓤) (at_mem : Memory → SP
       qed 𝓛 (Ref κ₁ δ st ∷ ‵ (flft κ₁ full_share) ∷ []) ∵ says ! ib $ nothing ! $ owned ! SH.the_row (Is SH.the_row) (EL.makes SH.the_type SH'.the_plain 𝓛) y _ iy $ fjoin ! $
       move ! (1 ∷ 0 ∷ []) $ fjoin ! $ nothing ! $ move ! (2 ∷ 0 ∷ []) $ join ! $ join ! $ done !
 
-  abbrev to-sum : Station → Bool → Lft → GName → (Sum 𝓛 at_mem run).Ghost
-  to-sum st y κ₁ δ = (((κ₁, tt), (full_share, tt), tt, (ref-at δ st, (y, tt)), (vptr b o ∷ [], (vbool y ∷ [], tt))), tt)
+  abbrev to_sum : Station → Bool → Lft → GName → (Sum 𝓛 at_mem run).Ghost
+  to_sum st y κ₁ δ = (((κ₁, tt), (full_share, tt), tt, (ref_at_lem δ st, (y, tt)), (vptr b o ∷ [], (vbool y ∷ [], tt))), tt)
 
-  goes-sum : (st : Station) (y : Bool) (κ₁ : Lft) (δ : GName) → ent 𝓤 (⋆ 𝓛 (Ref κ₁ δ st ∷ ‵ (flft κ₁ full_share) ∷ [])) ((Sum 𝓛 at_mem run).pre (to-sum st y κ₁ δ))
-  goes-sum st y κ₁ δ =
+  goes_sum : (st : Station) (y : Bool) (κ₁ : Lft) (δ : GName) → ent 𝓤 (⋆ 𝓛 (Ref κ₁ δ st ∷ ‵ (flft κ₁ full_share) ∷ [])) ((Sum 𝓛 at_mem run).pre (to_sum st y κ₁ δ))
+  goes_sum st y κ₁ δ =
       qed 𝓛 (Ref κ₁ δ st ∷ ‵ (flft κ₁ full_share) ∷ []) ∵ nothing ! $ owned ! bool (Is bool) (bool_Makes 𝓛) y _ refl $ fjoin ! $
       move ! (1 ∷ 0 ∷ []) $ fjoin ! $ nothing ! $ move ! (2 ∷ 0 ∷ []) $ join ! $ join ! $ frame ! $ done !
 
   -- ---- what is shown in a turn
-  abbrev nth-shown : ℕ → Shown
-  nth-shown j = in_turn xs j
+  abbrev nth_shown : ℕ → Shown
+  nth_shown j = in_turn xs j
 
   abbrev vs : List Val
   vs = map SH'.lowered xs
@@ -188,11 +188,11 @@ module _ {M : Type 1} {𝓤 : Ura M} (𝓛 : Logic 𝓤) (at_mem : Memory → SP
     shown_typed : T (has_ty (ty_array SH'.mir 5) (showns_val xs)) × WT (showns_val xs)
     shown_typed = ((Array-Lawful 𝓛 SH.the_row (EL.lawful SH.the_type SH'.the_laws 𝓛 tt) 5).typed xs _ ix).0
 
-    nth-is : (j : ℕ) → j < turns → Is SH.the_row (nth-shown j) (SH'.lowered (nth-shown j) ∷ [])
+    nth-is : (j : ℕ) → j < turns → Is SH.the_row (nth_shown j) (SH'.lowered (nth_shown j) ∷ [])
     nth-is j l = elem_is SH.the_row SH'.lowered (SH'.lowers).val_is 5 xs _ j Nothing (omega (arith, l, exs)) ix
 
     nth-typed : (j : ℕ) → j < turns → T (has_ty SH'.mir (get_or vs j (SH'.lowered Nothing))) × WT (get_or vs j (SH'.lowered Nothing))
-    nth-typed j l = subst (λ (w : Val). T (has_ty SH'.mir w) × WT w) (sym (get_or-map SH'.lowered xs j Nothing)) ((EL.lawful SH.the_type SH'.the_laws 𝓛 tt).typed (nth-shown j) _ (nth-is j l)).0
+    nth-typed j l = subst (λ (w : Val). T (has_ty SH'.mir w) × WT w) (sym (get_or-map SH'.lowered xs j Nothing)) ((EL.lawful SH.the_type SH'.the_laws 𝓛 tt).typed (nth_shown j) _ (nth-is j l)).0
 
     -- ---- a state of the loop
     record St : Type 0 where
@@ -201,27 +201,27 @@ module _ {M : Type 1} {𝓤 : Ura M} (𝓛 : Logic 𝓤) (at_mem : Memory → SP
       changed : Bool
       upto : j ≤ turns
       so_far : st ≡ left h xs j
-      changes : changed ≡ changed_to h.book nth-shown j
+      changes : changed ≡ changed_to h.book nth_shown j
 
-    goes_on : (t : St) (st' : Station) (y : Bool) → BringsOne t.st (nth-shown t.j) st' y → st' ≡ left h xs (t.j + 1)
+    goes_on : (t : St) (st' : Station) (y : Bool) → BringsOne t.st (nth_shown t.j) st' y → st' ≡ left h xs (t.j + 1)
     goes_on t st' y g = rw (g.0, t.so_far, add-one t.j) refl
 
-    changes-on : (t : St) (st' : Station) (y : Bool) → BringsOne t.st (nth-shown t.j) st' y → (y || t.changed) ≡ changed_to h.book nth-shown (t.j + 1)
+    changes-on : (t : St) (st' : Station) (y : Bool) → BringsOne t.st (nth_shown t.j) st' y → (y || t.changed) ≡ changed_to h.book nth_shown (t.j + 1)
     changes-on t st' y g = or_before y t.changed ∙ rw (g.1, t.changes, t.so_far, add-one t.j) refl
 
     ended : (t : St) (st' : Station) → t.j ≡ turns → SumsUp t.st t.changed st' → BringsAll h xs st'
-    ended t st' l su = all_turned h xs st' exs (su ∙ ap₂ summed (t.so_far ∙ ap (left h xs) l) (t.changes ∙ ap (changed_to h.book nth-shown) l))
+    ended t st' l su = all_turned h xs st' exs (su ∙ ap₂ summed (t.so_far ∙ ap (left h xs) l) (t.changes ∙ ap (changed_to h.book nth_shown) l))
 
     abbrev Nearer : St → St → Type 0
     Nearer t' t = turns - t'.j < turns - t.j
 
-    Nearer-wf : WellFounded Nearer
-    Nearer-wf = InvImage.wf (λ (t : St). turns - t.j) lt-wf_rel.wf
+    nearer_wf : WellFounded Nearer
+    nearer_wf = InvImage.wf (λ (t : St). turns - t.j) lt-wf_rel.wf
 
     -- ---- the locals, where they lie
     module _ (l₀ l₁ l₂ l₃ l₄ l₅ l₆ l₇ l₈ l₉ l₁₀ l₁₁ l₁₂ l₁₃ : ℕ) where
       abbrev En : Env 𝓤 H
-      En = envOf 𝓤 H body.locals (l₀ ∷ l₁ ∷ l₂ ∷ l₃ ∷ l₄ ∷ l₅ ∷ l₆ ∷ l₇ ∷ l₈ ∷ l₉ ∷ l₁₀ ∷ l₁₁ ∷ l₁₂ ∷ l₁₃ ∷ [])
+      En = env_of 𝓤 H body.locals (l₀ ∷ l₁ ∷ l₂ ∷ l₃ ∷ l₄ ∷ l₅ ∷ l₆ ∷ l₇ ∷ l₈ ∷ l₉ ∷ l₁₀ ∷ l₁₁ ∷ l₁₂ ∷ l₁₃ ∷ [])
 
       -- [the reference; its token; _13; …; _0; …]: local i is at 28 - 2 · i
       abbrev At : St → List (Item 𝓤)
@@ -233,20 +233,20 @@ module _ {M : Type 1} {𝓤 : Ura M} (𝓛 : Logic 𝓤) (at_mem : Memory → SP
       more : (t : St) → t.j < turns → Sq 𝓛 (At t) (runs C Λ En body.turn-1 (any_q (Turned t)))
       unfolding after_turn
       more t l =
-          sets ! (bin ! (local-of ! 18 refl refl) (lit ! tt) tt) 16 refl refl (tt, tt) $
-          rewrite ! 16 (λ (z : Bool). ‵ (fat full_share ty_bool l₆ 0 (vbool z))) (lt-ltb _ _ l) refl $ stays ! (local-of ! 16 refl refl) $
-          sets ! (addr-of ! 26 refl refl) 14 refl refl (tt, tt) $
-          sets ! (bin ! (local-of ! 18 refl refl) (lit ! tt) (record { fits = shown-bytes })) 12 refl refl (tt, record { fits = shown-bytes }) $
+          sets ! (bin ! (local_of ! 18 refl refl) (lit ! tt) tt) 16 refl refl (tt, tt) $
+          rewrite ! 16 (λ (z : Bool). ‵ (fat full_share ty_bool l₆ 0 (vbool z))) (lt-ltb _ _ l) refl $ stays ! (local_of ! 16 refl refl) $
+          sets ! (KIT addr_of ! 26 refl refl) 14 refl refl (tt, tt) $
+          sets ! (bin ! (local_of ! 18 refl refl) (lit ! tt) (record { fits = shown-bytes })) 12 refl refl (tt, record { fits = shown-bytes }) $
           sets ! (addr ! (from ! (stop !))) 10 refl refl (tt, tt) $
-          sets ! (bin ! (local-of ! 10 refl refl) (local-of ! 12 refl refl) tt) 8 refl refl (tt, tt) $
+          sets ! (bin ! (local_of ! 10 refl refl) (local_of ! 12 refl refl) tt) 8 refl refl (tt, tt) $
           rewrite ! 8 (λ (z : ℕ). ‵ (fat full_share ty_ptr l₁₀ 0 (vptr l₃ z))) (sym (place_is 32 0 t.j)) refl $
           sets ! (of_opd ! (load ! (from ! (hop ! (look ! 8 refl) (stop !))) (look_in ! 22 (item ! vs t.j (SH'.lowered Nothing) (lvs t.j l) evs (whole !))))) 6 refl refl (nth-typed t.j l) $
           rewrite ! 6 (λ (w : Val). ‵ (fat full_share SH'.mir l₁₁ 0 w)) (get_or-map SH'.lowered xs t.j Nothing) refl $
-          lends-on ! fm ST.the_row κ q γ b o t.st (One 𝓛 at_mem run) known-one (to_one t.st (nth-shown t.j)) (goes_one t.st (nth-shown t.j) (nth-is t.j l) (one_in xs t.j ai)) bool vbool bool_Tells (BringsOne t.st (nth-shown t.j)) (Unit {0} × Unit {0}) (λ _. fsep ftrue ftrue) (λ κ₁ δ u. id⊢ 𝓤 _)
-          (λ κ₁ δ i₁ i₂. and_then ! (local-of ! 14 refl refl) (and_then ! (local-of ! 6 refl refl) (no_more !))) (λ st' y g iy.
+          lends_on ! fm ST.the_row κ q γ b o t.st (One 𝓛 at_mem run) known-one (to_one t.st (nth_shown t.j)) (goes_one t.st (nth_shown t.j) (nth-is t.j l) (one_in xs t.j ai)) bool vbool bool_Tells (BringsOne t.st (nth_shown t.j)) (Unit {0} × Unit {0}) (λ _. fsep ftrue ftrue) (λ κ₁ δ u. id⊢ 𝓤 _)
+          (λ κ₁ δ i₁ i₂. and_then ! (local_of ! 14 refl refl) (and_then ! (local_of ! 6 refl refl) (no_more !))) (λ st' y g iy.
           land ! (from ! (stop !)) (store ! 16 refl ((bool_Lawful 𝓛).typed y _ iy).0) $
-          assigns ! (bin ! (local-of ! 16 refl refl) (local-of ! 20 refl refl) tt) (from ! (stop !)) (store ! 20 refl (tt, tt)) $
-          assigns_last ! (bin ! (local-of ! 18 refl refl) (lit ! tt) (record { fits = next_fits })) (from ! (stop !)) (store ! 18 refl (tt, record { fits = next_fits })) $
+          assigns ! (bin ! (local_of ! 16 refl refl) (local_of ! 20 refl refl) tt) (from ! (stop !)) (store ! 20 refl (tt, tt)) $
+          assigns_last ! (bin ! (local_of ! 18 refl refl) (lit ! tt) (record { fits = next_fits })) (from ! (stop !)) (store ! 18 refl (tt, record { fits = next_fits })) $
           keeps (_ ∷ _ ∷ []) En loop_kept (none ∷ holding _ ∷ none ∷ holding _ ∷ holding _ ∷ holding _ ∷ holding _ ∷ holding _ ∷ holding _ ∷ holding _ ∷ holding _ ∷ holding _ ∷ []) ! $ again ! Nearer At t (next st' y g) nearer)
         where
           shown-bytes : t.j * 32 < 2 ^ 64
@@ -258,24 +258,24 @@ module _ {M : Type 1} {𝓤 : Ura M} (𝓛 : Logic 𝓤) (at_mem : Memory → SP
           nearer : turns - (t.j + 1) < turns - t.j
           nearer = omega (arith, l)
 
-          next : (st' : Station) (y : Bool) → BringsOne t.st (nth-shown t.j) st' y → St
+          next : (st' : Station) (y : Bool) → BringsOne t.st (nth_shown t.j) st' y → St
           next st' y g = record { j = t.j + 1; st = st'; changed = y || t.changed; upto = omega (arith, l); so_far = goes_on t st' y g; changes = changes-on t st' y g }
 
       over : (t : St) → t.j ≡ turns → Sq 𝓛 (At t) (runs C Λ En body.turn-1 (any_q (Turned t)))
       unfolding after_turn
       over t l =
-          sets ! (bin ! (local-of ! 18 refl refl) (lit ! tt) tt) 16 refl refl (tt, tt) $
-          rewrite ! 16 (λ (z : Bool). ‵ (fat full_share ty_bool l₆ 0 (vbool z))) (le-ltb t.j turns (omega (arith, l))) refl $ leaves_loop ! (local-of ! 16 refl refl) $
+          sets ! (bin ! (local_of ! 18 refl refl) (lit ! tt) tt) 16 refl refl (tt, tt) $
+          rewrite ! 16 (λ (z : Bool). ‵ (fat full_share ty_bool l₆ 0 (vbool z))) (le-ltb t.j turns (omega (arith, l))) refl $ leaves_loop ! (local_of ! 16 refl refl) $
           exec ! C Λ En body.t-5 (at_ret En Post) $
-          sets ! (addr-of ! 26 refl refl) 2 refl refl (tt, tt) $
-          lends-on ! fm ST.the_row κ q γ b o t.st (Sum 𝓛 at_mem run) known-sum (to-sum t.st t.changed) (goes-sum t.st t.changed) unit (λ _. vunit) Nothing-Tells (λ st' _. SumsUp t.st t.changed st') (Unit {0} × Unit {0}) (λ _. fsep ftrue ftrue) (λ κ₁ δ u. id⊢ 𝓤 _)
-          (λ κ₁ δ i₁ i₂. and_then ! (local-of ! 2 refl refl) (and_then ! (local-of ! 20 refl refl) (no_more !))) (λ st' y g iy.
+          sets ! (KIT addr_of ! 26 refl refl) 2 refl refl (tt, tt) $
+          lends_on ! fm ST.the_row κ q γ b o t.st (Sum 𝓛 at_mem run) known-sum (to_sum t.st t.changed) (goes_sum t.st t.changed) unit (λ _. vunit) Nothing-Tells (λ st' _. SumsUp t.st t.changed st') (Unit {0} × Unit {0}) (λ _. fsep ftrue ftrue) (λ κ₁ δ u. id⊢ 𝓤 _)
+          (λ κ₁ δ i₁ i₂. and_then ! (local_of ! 2 refl refl) (and_then ! (local_of ! 20 refl refl) (no_more !))) (λ st' y g iy.
           land ! (from ! (stop !)) (init ! 4 refl (tt, tt)) $
           sets ! (of_opd ! (unit_lit !)) 28 refl refl (tt, tt) $ returns ! (look ! 28 refl) $
           free_all (Ends st') (holding _ ∷ holding _ ∷ none ∷ holding _ ∷ holding _ ∷ holding _ ∷ holding _ ∷ none ∷ none ∷ none ∷ none ∷ none ∷ holding _ ∷ holding _ ∷ []) ! $ by ! (exits st' (ended t st' l g)))
 
       from-loop : (t : St) → Sq 𝓛 (At t) (runs C Λ En body.t-4 (at_ret En Post))
-      from-loop t = first ! $ blocks ! $ loops ! 𝓣 Nearer Nearer-wf At (λ t'. elim (eq-or-lt_of_le t'.upto) [ inl l ↦ over t' l | inr l ↦ more t' l ]) t
+      from-loop t = first ! $ blocks ! $ loops ! 𝓣 Nearer nearer_wf At (λ t'. elim (eq-or-lt_of_le t'.upto) [ inl l ↦ over t' l | inr l ↦ more t' l ]) t
 
     walk : ent 𝓤 (on_entry 𝓛 all.signature (κ, tt) (q, tt) x at) (WpFn 𝓤 H C Λ code.function (vptr b o ∷ showns_val xs ∷ []) Post)
     walk =
@@ -284,7 +284,7 @@ module _ {M : Type 1} {𝓤 : Ura M} (𝓛 : Logic 𝓤) (at_mem : Memory → SP
         pass1 ! (init ! 24 refl (tt, tt)) $ pass1 ! (init ! 22 refl shown_typed) $ pass0 ! $
         move ! (29 ∷ []) $ fsplit ! $ move ! (1 ∷ []) $ drop ! $ move ! (29 ∷ []) $ split ! $ move ! (1 ∷ []) $ drop ! $ move ! (1 ∷ 0 ∷ []) $
         -- [the reference; its token; _13; …; _0; …]: local i is at 28 - 2 · i
-        sets ! (of_opd ! (local-of ! 24 refl refl)) 22 refl refl shown_typed $
+        sets ! (of_opd ! (local_of ! 24 refl refl)) 22 refl refl shown_typed $
         sets ! (of_opd ! (false_lit !)) 20 refl refl (tt, tt) $
         sets ! (of_opd ! (lit ! tt)) 18 refl refl (tt, record { fits = lit< tt }) $
         keeps (_ ∷ _ ∷ []) (En l₀ l₁ l₂ l₃ l₄ l₅ l₆ l₇ l₈ l₉ l₁₀ l₁₁ l₁₂ l₁₃) loop_kept (none ∷ holding _ ∷ holding _ ∷ holding _ ∷ holding _ ∷ holding _ ∷ []) ! $
@@ -293,20 +293,20 @@ module _ {M : Type 1} {𝓤 : Ura M} (𝓛 : Logic 𝓤) (at_mem : Memory → SP
 module _ {M : Type 1} {𝓤 : Ura M} (𝓛 : Logic 𝓤) (mem : Memory → SProp 𝓤) (run : Routine → Fun 𝓤) (𝓣 : Tables 𝓤 𝓛.H) (known-one : Triple 𝓤 (𝓣.C #lent·bring-one) (One 𝓛 mem run)) (known-sum : Triple 𝓤 (𝓣.C #lent·sum-up) (Sum 𝓛 mem run)) where
   open 𝓛 use {H}
 
-  all-walks : Walks 𝓛 all.ended stayed (WpFn 𝓤 H 𝓣.C 𝓣.Λ code.function) (all.clauses 𝓛 mem run)
-  all-walks = walked 𝓛 all.ended stayed (all.clauses 𝓛 mem run) (WpFn 𝓤 H 𝓣.C 𝓣.Λ code.function) (λ κs. (mut_vals, (array_vals (λ d. SH'.lowered d ∷ []), tt)))
+  all_walks : Walks 𝓛 all.ended stayed (WpFn 𝓤 H 𝓣.C 𝓣.Λ code.function) (all.clauses 𝓛 mem run)
+  all_walks = walked 𝓛 all.ended stayed (all.clauses 𝓛 mem run) (WpFn 𝓤 H 𝓣.C 𝓣.Λ code.function) (λ κs. (mut_vals, (array_vals (λ d. SH'.lowered d ∷ []), tt)))
       (λ κs. (mut_Tells (named 0) κs.0 ST.the_row, (Array-Tells SH.the_row (λ d. SH'.lowered d ∷ []) (SH'.lowers).val_is 5, tt)))
       (λ κs qs bounds a _ are. needs 𝓤 (AllInBook a.1.0) _ (λ ai. walk 𝓛 mem run κs.0 qs.0 a.0.ref_ptr.0 a.0.ref_ptr.1 a.0.ghost_name a.0.now a.1.0 𝓣 known-one known-sum are.1.0 ai))
 
-  all-meets : Meets 𝓛 all.signature (WpFn 𝓤 H 𝓣.C 𝓣.Λ code.function) (all.spec 𝓛 mem run)
-  all-meets = walk_Meets 𝓛 all.ended stayed (Goes-ref 𝓛 1 0 tt (plain (λ _. ST.the_row)), (Goes-dropped 𝓛 1 shown_slot yes (λ κs x f. refl), tt))
-      (all.clauses 𝓛 mem run) (WpFn 𝓤 H 𝓣.C 𝓣.Λ code.function) (WpFn-mono 𝓤 H 𝓛.laws 𝓣 code.function) all-walks
+  all_meets : Meets 𝓛 all.signature (WpFn 𝓤 H 𝓣.C 𝓣.Λ code.function) (all.spec 𝓛 mem run)
+  all_meets = walk_Meets 𝓛 all.ended stayed (Goes-ref 𝓛 1 0 tt (plain (λ _. ST.the_row)), (Goes-dropped 𝓛 1 shown_slot yes (λ κs x f. refl), tt))
+      (all.clauses 𝓛 mem run) (WpFn 𝓤 H 𝓣.C 𝓣.Λ code.function) (WpFn-mono 𝓤 H 𝓛.laws 𝓣 code.function) all_walks
 
 pub bring-all-spec : {M : Type 1} → stated.statement M
 unfolding code.routine tables_of
 bring-all-spec 𝓤 𝓛 𝓜 𝓡 =
     entered 𝓤 𝓛.H (triple_of 𝓛 all.signature (all.spec 𝓛 𝓜.mem 𝓡.run))
     (tables 𝓤 𝓛.H 𝓜 𝓡 code.env).C (tables 𝓤 𝓛.H 𝓜 𝓡 code.env).Λ #lent·bring-all code.function (code.unfolded 𝓤 𝓛.H 𝓜 𝓡)
-    (all-meets 𝓛 𝓜.mem 𝓡.run (tables_of 𝓤 𝓛.H 𝓜 (tables 𝓤 𝓛.H 𝓜 𝓡 code.env))
+    (all_meets 𝓛 𝓜.mem 𝓡.run (tables_of 𝓤 𝓛.H 𝓜 (tables 𝓤 𝓛.H 𝓜 𝓡 code.env))
     (cited 𝓤 𝓛.H (One 𝓛 𝓜.mem 𝓡.run) 𝓜 𝓡 code.env #lent·bring-one one_def.routine code.calls-lent::offering::bring-one (one-thm.met 𝓤 𝓛 𝓜 𝓡))
     (cited 𝓤 𝓛.H (Sum 𝓛 𝓜.mem 𝓡.run) 𝓜 𝓡 code.env #lent·sum-up sum-def.routine code.calls-lent::offering::sum-up (sum-thm.met 𝓤 𝓛 𝓜 𝓡)))

@@ -73,10 +73,10 @@ use Rattle.station.specs.declared.Station.{Station}
 use Rattle.station.specs.contracts.Station as ST
 use Rattle.station.proofs.Station.TheLaws as ST'
 use Rattle.lent.specs.Lent.{BringsOne}
-use Rattle.lent.proofs.Borrowed.{opens-station, closes-station}
-use Rattle.lent.proofs.Item.{map_set, either_way, lows-set, low-is, low-typed, low-item}
-use Rattle.lent.proofs.Parts.{entry_bytes, book_at, rows_val, book_val, station_val, Whole, rows_of, summary_of, entries_of, book_made, made_of, entry-typed}
-use Rattle.lent.proofs.Walk.{envOf, locals, free_all, keeps, local-of, sets, asks}
+use Rattle.lent.proofs.Borrowed.{opens_station, closes_station}
+use Rattle.lent.proofs.Item.{map_set, either_way, lows_set, low_is, low_typed, low_item}
+use Rattle.lent.proofs.Parts.{entry_bytes, book_at, rows_val, book_val, station_val, Whole, rows_of, summary_of, entries_of, book_made, made_of, entry_typed}
+use Rattle.lent.proofs.Walk.{env_of, locals, free_all, keeps, local_of, sets, asks}
 use Rattle.lent.specs.contracts.offering.bring_one.Key.{name as #lent·bring-one}
 use Rattle.lent.specs.contracts.offering.bring_one as one
 use Rattle.lent.proofs.offering.bring_one.Statement as stated
@@ -148,17 +148,17 @@ module _ {M : Type 1} {𝓤 : Ura M} (𝓛 : Logic 𝓤) (at_mem : Memory → SP
       owned ! bool (Is bool) (bool_Makes 𝓛) t _ refl $ done !
 
   -- what the callees ask
-  abbrev to-place : (Place 𝓛 at_mem run).Ghost
-  to-place = ((tt, tt, tt, (s, tt), (SH'.lowered s ∷ [], tt)), tt)
+  abbrev to_place : (Place 𝓛 at_mem run).Ghost
+  to_place = ((tt, tt, tt, (s, tt), (SH'.lowered s ∷ [], tt)), tt)
 
-  goes-place : Is SH.the_row s (SH'.lowered s ∷ []) → InBook s → ent 𝓤 (emp 𝓤) ((Place 𝓛 at_mem run).pre to-place)
-  goes-place is ib = qed 𝓛 [] ∵ says ! ib $ nothing ! $ owned ! SH.the_row (Is SH.the_row) (EL.makes SH.the_type SH'.the_plain 𝓛) s _ is $ fjoin ! $ nothing ! $ join ! $ done !
+  goes_place : Is SH.the_row s (SH'.lowered s ∷ []) → InBook s → ent 𝓤 (emp 𝓤) ((Place 𝓛 at_mem run).pre to_place)
+  goes_place is ib = qed 𝓛 [] ∵ says ! ib $ nothing ! $ owned ! SH.the_row (Is SH.the_row) (EL.makes SH.the_type SH'.the_plain 𝓛) s _ is $ fjoin ! $ nothing ! $ join ! $ done !
 
-  abbrev to-rises : Entry → (Rises 𝓛 at_mem run).Ghost
-  to-rises e = ((tt, tt, tt, (e, (s, tt)), (EN'.lowered e ∷ [], (SH'.lowered s ∷ [], tt))), tt)
+  abbrev to_rises : Entry → (Rises 𝓛 at_mem run).Ghost
+  to_rises e = ((tt, tt, tt, (e, (s, tt)), (EN'.lowered e ∷ [], (SH'.lowered s ∷ [], tt))), tt)
 
-  goes-rises : (e : Entry) → Is EN.the_row e (EN'.lowered e ∷ []) → Is SH.the_row s (SH'.lowered s ∷ []) → ent 𝓤 (emp 𝓤) ((Rises 𝓛 at_mem run).pre (to-rises e))
-  goes-rises e ie is =
+  goes_rises : (e : Entry) → Is EN.the_row e (EN'.lowered e ∷ []) → Is SH.the_row s (SH'.lowered s ∷ []) → ent 𝓤 (emp 𝓤) ((Rises 𝓛 at_mem run).pre (to_rises e))
+  goes_rises e ie is =
       qed 𝓛 [] ∵ nothing ! $ owned ! SH.the_row (Is SH.the_row) (EL.makes SH.the_type SH'.the_plain 𝓛) s _ is $ fjoin ! $
       owned ! EN.the_row (Is EN.the_row) (LL.makes EN.the_type EN'.the_plain 𝓛) e _ ie $ fjoin ! $ nothing ! $ join ! $ frame ! $ done !
 
@@ -169,32 +169,32 @@ module _ {M : Type 1} {𝓤 : Ura M} (𝓛 : Logic 𝓤) (at_mem : Memory → SP
   in_bytes_lem : (k : ℕ) → k < slots → k * entry_bytes < 2 ^ 64
   in_bytes_lem k l = omega (arith, l)
 
-  old-is : (k : ℕ) → k < slots → Whole h → Is EN.the_row (entry_at h k) (EN'.lowered (entry_at h k) ∷ [])
-  old-is k l ih = low-is EN.the_type EN'.lowers slots h.book.entries (entries_of h _ ih) k l blank
+  old_is : (k : ℕ) → k < slots → Whole h → Is EN.the_row (entry_at h k) (EN'.lowered (entry_at h k) ∷ [])
+  old_is k l ih = low_is EN.the_type EN'.lowers slots h.book.entries (entries_of h _ ih) k l blank
 
   left_is : (k : ℕ) (e : Entry) → Is EN.the_row e (EN'.lowered e ∷ []) → Whole h
       → Is ST.the_row (left h k e) (station_val (rows_val h.rows) (book_val (array_val (map EN'.lowered (set h.book.entries k e)))) (SM'.lowered h.summary) ∷ [])
   left_is k e ie ih =
       let es = h.book.entries in
       made_of h.rows (record { entries = set es k e }) h.summary (rows_of h _ ih)
-      (book_made (set es k e) (length-set es k e ∙ (entries_of h _ ih).0, lows-set EN.the_type EN'.lowers es k e ie (entries_of h _ ih).1)) (summary_of h _ ih)
+      (book_made (set es k e) (length-set es k e ∙ (entries_of h _ ih).0, lows_set EN.the_type EN'.lowers es k e ie (entries_of h _ ih).1)) (summary_of h _ ih)
 
   -- of the locals the answer alone is kept
-  abbrev answer-kept : List Bool
-  answer-kept = false ∷ false ∷ false ∷ false ∷ true ∷ []
+  abbrev answer_kept : List Bool
+  answer_kept = false ∷ false ∷ false ∷ false ∷ true ∷ []
 
   module _ (C : Calls 𝓤 H) (Λ : Loops 𝓤 H) (fm : FmC 𝓤 H 𝓛.laws C) (known-place : Triple 𝓤 (C #book·place-of) (Place 𝓛 at_mem run)) (known-rises : Triple 𝓤 (C #book·rises) (Rises 𝓛 at_mem run)) (known-join : Triple 𝓤 (C #book·join) (Join 𝓛 at_mem run)) (is : Is SH.the_row s (SH'.lowered s ∷ [])) (ib : InBook s) where
     module _ (l₀ l₁ l₂ l₃ l₄ l₅ l₆ l₇ l₈ l₉ l₁₀ l₁₁ l₁₂ l₁₃ l₁₄ l₁₅ l₁₆ l₁₇ : ℕ) where
       abbrev En : Env 𝓤 H
-      En = envOf 𝓤 H body.locals (l₀ ∷ l₁ ∷ l₂ ∷ l₃ ∷ l₄ ∷ l₅ ∷ l₆ ∷ l₇ ∷ l₈ ∷ l₉ ∷ l₁₀ ∷ l₁₁ ∷ l₁₂ ∷ l₁₃ ∷ l₁₄ ∷ l₁₅ ∷ l₁₆ ∷ l₁₇ ∷ [])
+      En = env_of 𝓤 H body.locals (l₀ ∷ l₁ ∷ l₂ ∷ l₃ ∷ l₄ ∷ l₅ ∷ l₆ ∷ l₇ ∷ l₈ ∷ l₉ ∷ l₁₀ ∷ l₁₁ ∷ l₁₂ ∷ l₁₃ ∷ l₁₄ ∷ l₁₅ ∷ l₁₆ ∷ l₁₇ ∷ [])
 
       -- from either arm, with all locals emptied but the answer: the borrow is closed at the station that was left
       leaves : (st : Station) (v : Val) (t : Bool) → Is ST.the_row st (v ∷ []) → BringsOne h s st t
           → Sq 𝓛 (‵ (fat full_share ST'.mir b o v) ∷ ‵ (fobor κ q (Body (mem ST.the_row) b o γ)) ∷ ‵ (fobs γ ((ST.the_row).coded.code h)) ∷ ‵ (fauth γ ((ST.the_row).coded.code h)) ∷ locals 𝓤 H En (none ∷ none ∷ none ∷ none ∷ holding (vbool t) ∷ [])) (runs C Λ En body.t-9 (at_ret En Post))
       leaves st v t iv e =
-          closes-station ! tt st v b o iv $
+          closes_station ! tt st v b o iv $
           -- [obs; the borrow; the token; _17; …; _0; …]
-          sets ! (of_opd ! (local-of ! 29 refl refl)) 37 refl refl (tt, tt) $ returns ! (look ! 37 refl) $
+          sets ! (of_opd ! (local_of ! 29 refl refl)) 37 refl refl (tt, tt) $ returns ! (look ! 37 refl) $
           free_all (Ends st) (holding _ ∷ none ∷ none ∷ none ∷ holding _ ∷ []) ! $ by ! (exits st t e)
 
     walk : ent 𝓤 (on_entry 𝓛 one.signature (κ, tt) (q, tt) x at) (WpFn 𝓤 H C Λ code.function (vptr b o ∷ SH'.lowered s ∷ []) Post)
@@ -204,62 +204,62 @@ module _ {M : Type 1} {𝓤 : Ura M} (𝓛 : Logic 𝓤) (at_mem : Memory → SP
         pass1 ! (init ! 32 refl (tt, tt)) $ pass1 ! (init ! 30 refl ((EL.lawful SH.the_type SH'.the_laws 𝓛 tt).typed s _ is).0) $ pass0 ! $
         -- [what the reference owns; what is shown; the locals; the token and true]
         move ! (37 ∷ []) $ fsplit ! $ fsplit3 ! $ drop ! $ move ! (2 ∷ []) $ drop ! $ move ! (38 ∷ []) $ split ! $ move ! (1 ∷ []) $ drop ! $ move ! (1 ∷ 2 ∷ 0 ∷ []) $
-        opens-station ! tt h b o (λ ih.
+        opens_station ! tt h b o (λ ih.
         -- [the station's cell; the open borrow; obs; auth; _17; …; _0; …]: local i is at 38 - 2 · i
-        asks ! fm (Place 𝓛 at_mem run) known-place to-place (goes-place is ib) usize (vint w64) (uint_Tells w64) (λ r. (r ≡ place_in s) × (r < slots)) _ (lasts place'.ended tt (s, tt)) (λ u. id⊢ 𝓤 _)
-        (λ P. and_then ! (local-of ! 35 refl refl) (no_more !)) (λ k ek ik.
+        asks ! fm (Place 𝓛 at_mem run) known-place to_place (goes_place is ib) usize (vint w64) (uint_Tells w64) (λ r. (r ≡ place_in s) × (r < slots)) _ (lasts place'.ended tt (s, tt)) (λ u. id⊢ 𝓤 _)
+        (λ P. and_then ! (local_of ! 35 refl refl) (no_more !)) (λ k ek ik.
         land ! (from ! (stop !)) (init ! 32 refl ((uint_Lawful 𝓛 w64).typed k _ ik).0) $
-        sets ! (bin ! (local-of ! 32 refl refl) (lit ! tt) (record { fits = in_bytes_lem k ek.1 })) 28 refl refl (tt, record { fits = in_bytes_lem k ek.1 }) $
+        sets ! (bin ! (local_of ! 32 refl refl) (lit ! tt) (record { fits = in_bytes_lem k ek.1 })) 28 refl refl (tt, record { fits = in_bytes_lem k ek.1 }) $
         sets ! (addr ! (from ! (hop ! (look ! 36 refl) (fld ! refl (fld ! refl (stop !)))))) 26 refl refl (tt, tt) $
-        sets ! (bin ! (local-of ! 26 refl refl) (local-of ! 28 refl refl) tt) 24 refl refl (tt, tt) $
+        sets ! (bin ! (local_of ! 26 refl refl) (local_of ! 28 refl refl) tt) 24 refl refl (tt, tt) $
         rewrite ! 24 (λ (z : ℕ). ‵ (fat full_share ty_ptr l₇ 0 (vptr b z))) (sym (place_is entry_bytes (o + book_at + 0) k)) refl $
-        sets ! (of_opd ! (load ! (from ! (hop ! (look ! 24 refl) (stop !))) (look_in ! 0 (low-item ! EN.the_type EN'.lowers h.book.entries (entries_of h _ ih) k ek.1 blank (sub ! 0 refl (sub ! 1 refl (whole !))))))) 22 refl refl (low-typed EN.the_type EN'.lowers slots h.book.entries (entries_of h _ ih) k ek.1 blank EN'.mir (entry-typed 𝓛)) $
+        sets ! (of_opd ! (load ! (from ! (hop ! (look ! 24 refl) (stop !))) (look_in ! 0 (low_item ! EN.the_type EN'.lowers h.book.entries (entries_of h _ ih) k ek.1 blank (sub ! 0 refl (sub ! 1 refl (whole !))))))) 22 refl refl (low_typed EN.the_type EN'.lowers slots h.book.entries (entries_of h _ ih) k ek.1 blank EN'.mir (entry_typed 𝓛)) $
         rewrite ! 22 (λ (w : Val). ‵ (fat full_share EN'.mir l₈ 0 w)) (get_or-map EN'.lowered h.book.entries k blank) refl $
-        asks ! fm (Rises 𝓛 at_mem run) known-rises (to-rises (entry_at h k)) (goes-rises (entry_at h k) (old-is k ek.1 ih) is) bool vbool bool_Tells (RisesIs (entry_at h k) s) _ (lasts rises'.ended tt (entry_at h k, (s, tt))) (λ u. id⊢ 𝓤 _)
-        (λ P. and_then ! (local-of ! 23 refl refl) (and_then ! (local-of ! 35 refl refl) (no_more !))) (λ y ey iy.
+        asks ! fm (Rises 𝓛 at_mem run) known-rises (to_rises (entry_at h k)) (goes_rises (entry_at h k) (old_is k ek.1 ih) is) bool vbool bool_Tells (RisesIs (entry_at h k) s) _ (lasts rises'.ended tt (entry_at h k, (s, tt))) (λ u. id⊢ 𝓤 _)
+        (λ P. and_then ! (local_of ! 23 refl refl) (and_then ! (local_of ! 35 refl refl) (no_more !))) (λ y ey iy.
         land ! (from ! (stop !)) (init ! 30 refl ((bool_Lawful 𝓛).typed y _ iy).0) $
-        sets ! (of_opd ! (local-of ! 30 refl refl)) 20 refl refl (tt, tt) $
-        either_way ! (local-of ! 20 refl refl)
+        sets ! (of_opd ! (local_of ! 30 refl refl)) 20 refl refl (tt, tt) $
+        either_way ! (local_of ! 20 refl refl)
         (λ t.
         -- the entry read again, joined, and back
-        sets ! (bin ! (local-of ! 32 refl refl) (lit ! tt) (record { fits = in_bytes_lem k ek.1 })) 16 refl refl (tt, record { fits = in_bytes_lem k ek.1 }) $
+        sets ! (bin ! (local_of ! 32 refl refl) (lit ! tt) (record { fits = in_bytes_lem k ek.1 })) 16 refl refl (tt, record { fits = in_bytes_lem k ek.1 }) $
         sets ! (addr ! (from ! (hop ! (look ! 36 refl) (fld ! refl (fld ! refl (stop !)))))) 14 refl refl (tt, tt) $
-        sets ! (bin ! (local-of ! 14 refl refl) (local-of ! 16 refl refl) tt) 12 refl refl (tt, tt) $
+        sets ! (bin ! (local_of ! 14 refl refl) (local_of ! 16 refl refl) tt) 12 refl refl (tt, tt) $
         rewrite ! 12 (λ (z : ℕ). ‵ (fat full_share ty_ptr l₁₃ 0 (vptr b z))) (sym (place_is entry_bytes (o + book_at + 0) k)) refl $
-        sets ! (of_opd ! (load ! (from ! (hop ! (look ! 12 refl) (stop !))) (look_in ! 0 (low-item ! EN.the_type EN'.lowers h.book.entries (entries_of h _ ih) k ek.1 blank (sub ! 0 refl (sub ! 1 refl (whole !))))))) 10 refl refl (low-typed EN.the_type EN'.lowers slots h.book.entries (entries_of h _ ih) k ek.1 blank EN'.mir (entry-typed 𝓛)) $
+        sets ! (of_opd ! (load ! (from ! (hop ! (look ! 12 refl) (stop !))) (look_in ! 0 (low_item ! EN.the_type EN'.lowers h.book.entries (entries_of h _ ih) k ek.1 blank (sub ! 0 refl (sub ! 1 refl (whole !))))))) 10 refl refl (low_typed EN.the_type EN'.lowers slots h.book.entries (entries_of h _ ih) k ek.1 blank EN'.mir (entry_typed 𝓛)) $
         rewrite ! 10 (λ (w : Val). ‵ (fat full_share EN'.mir l₁₄ 0 w)) (get_or-map EN'.lowered h.book.entries k blank) refl $
-        asks ! fm (Join 𝓛 at_mem run) known-join (to-rises (entry_at h k)) (goes-rises (entry_at h k) (old-is k ek.1 ih) is) EN.the_row EN'.lowered (EN'.lowers).val_is (λ r. r ≡ joined_entry (entry_at h k) s) _ (lasts join'.ended tt (entry_at h k, (s, tt))) (λ u. id⊢ 𝓤 _)
-        (λ P. and_then ! (local-of ! 11 refl refl) (and_then ! (local-of ! 35 refl refl) (no_more !))) (λ e ee ie.
-        land ! (from ! (stop !)) (init ! 18 refl (entry-typed 𝓛 e ie)) $
-        sets ! (bin ! (local-of ! 32 refl refl) (lit ! tt) (record { fits = in_bytes_lem k ek.1 })) 8 refl refl (tt, record { fits = in_bytes_lem k ek.1 }) $
+        asks ! fm (Join 𝓛 at_mem run) known-join (to_rises (entry_at h k)) (goes_rises (entry_at h k) (old_is k ek.1 ih) is) EN.the_row EN'.lowered (EN'.lowers).val_is (λ r. r ≡ joined_entry (entry_at h k) s) _ (lasts join'.ended tt (entry_at h k, (s, tt))) (λ u. id⊢ 𝓤 _)
+        (λ P. and_then ! (local_of ! 11 refl refl) (and_then ! (local_of ! 35 refl refl) (no_more !))) (λ e ee ie.
+        land ! (from ! (stop !)) (init ! 18 refl (entry_typed 𝓛 e ie)) $
+        sets ! (bin ! (local_of ! 32 refl refl) (lit ! tt) (record { fits = in_bytes_lem k ek.1 })) 8 refl refl (tt, record { fits = in_bytes_lem k ek.1 }) $
         sets ! (addr ! (from ! (hop ! (look ! 36 refl) (fld ! refl (fld ! refl (stop !)))))) 6 refl refl (tt, tt) $
-        sets ! (bin ! (local-of ! 6 refl refl) (local-of ! 8 refl refl) tt) 4 refl refl (tt, tt) $
+        sets ! (bin ! (local_of ! 6 refl refl) (local_of ! 8 refl refl) tt) 4 refl refl (tt, tt) $
         rewrite ! 4 (λ (z : ℕ). ‵ (fat full_share ty_ptr l₁₇ 0 (vptr b z))) (sym (place_is entry_bytes (o + book_at + 0) k)) refl $
-        assigns_last ! (of_opd ! (local-of ! 18 refl refl)) (from ! (hop ! (look ! 4 refl) (stop !))) (store_in ! 0 (low-item ! EN.the_type EN'.lowers h.book.entries (entries_of h _ ih) k ek.1 blank (sub ! 0 refl (sub ! 1 refl (whole !)))) (entry-typed 𝓛 e ie)) $
+        assigns_last ! (of_opd ! (local_of ! 18 refl refl)) (from ! (hop ! (look ! 4 refl) (stop !))) (store_in ! 0 (low_item ! EN.the_type EN'.lowers h.book.entries (entries_of h _ ih) k ek.1 blank (sub ! 0 refl (sub ! 1 refl (whole !)))) (entry_typed 𝓛 e ie)) $
         exec ! C Λ (En l₀ l₁ l₂ l₃ l₄ l₅ l₆ l₇ l₈ l₉ l₁₀ l₁₁ l₁₂ l₁₃ l₁₄ l₁₅ l₁₆ l₁₇) body.t-9 (at_ret (En l₀ l₁ l₂ l₃ l₄ l₅ l₆ l₇ l₈ l₉ l₁₀ l₁₁ l₁₂ l₁₃ l₁₄ l₁₅ l₁₆ l₁₇) Post) $
         rewrite ! 0 (λ (ws : List Val). ‵ (fat full_share ST'.mir b o (station_val (rows_val h.rows) (book_val (array_val ws)) (SM'.lowered h.summary)))) (map_set EN'.lowered h.book.entries k e) refl $
-        keeps (_ ∷ _ ∷ _ ∷ _ ∷ []) (En l₀ l₁ l₂ l₃ l₄ l₅ l₆ l₇ l₈ l₉ l₁₀ l₁₁ l₁₂ l₁₃ l₁₄ l₁₅ l₁₆ l₁₇) answer-kept (none ∷ holding _ ∷ holding _ ∷ holding _ ∷ holding _ ∷ holding _ ∷ holding _ ∷ holding _ ∷ holding _ ∷ holding _ ∷ holding _ ∷ holding _ ∷ holding _ ∷ holding _ ∷ holding _ ∷ holding _ ∷ holding _ ∷ holding _ ∷ []) ! $
+        keeps (_ ∷ _ ∷ _ ∷ _ ∷ []) (En l₀ l₁ l₂ l₃ l₄ l₅ l₆ l₇ l₈ l₉ l₁₀ l₁₁ l₁₂ l₁₃ l₁₄ l₁₅ l₁₆ l₁₇) answer_kept (none ∷ holding _ ∷ holding _ ∷ holding _ ∷ holding _ ∷ holding _ ∷ holding _ ∷ holding _ ∷ holding _ ∷ holding _ ∷ holding _ ∷ holding _ ∷ holding _ ∷ holding _ ∷ holding _ ∷ holding _ ∷ holding _ ∷ holding _ ∷ []) ! $
         leaves l₀ l₁ l₂ l₃ l₄ l₅ l₆ l₇ l₈ l₉ l₁₀ l₁₁ l₁₂ l₁₃ l₁₄ l₁₅ l₁₆ l₁₇ (left h k e) _ y (left_is k e ie ih) (joined_one h s k e y ek.0 ey ee)))
-        (λ f. keeps (_ ∷ _ ∷ _ ∷ _ ∷ []) (En l₀ l₁ l₂ l₃ l₄ l₅ l₆ l₇ l₈ l₉ l₁₀ l₁₁ l₁₂ l₁₃ l₁₄ l₁₅ l₁₆ l₁₇) answer-kept (none ∷ holding _ ∷ holding _ ∷ holding _ ∷ holding _ ∷ holding _ ∷ holding _ ∷ holding _ ∷ holding _ ∷ holding _ ∷ []) ! $
+        (λ f. keeps (_ ∷ _ ∷ _ ∷ _ ∷ []) (En l₀ l₁ l₂ l₃ l₄ l₅ l₆ l₇ l₈ l₉ l₁₀ l₁₁ l₁₂ l₁₃ l₁₄ l₁₅ l₁₆ l₁₇) answer_kept (none ∷ holding _ ∷ holding _ ∷ holding _ ∷ holding _ ∷ holding _ ∷ holding _ ∷ holding _ ∷ holding _ ∷ holding _ ∷ []) ! $
         leaves l₀ l₁ l₂ l₃ l₄ l₅ l₆ l₇ l₈ l₉ l₁₀ l₁₁ l₁₂ l₁₃ l₁₄ l₁₅ l₁₆ l₁₇ h _ y ih (kept_one h s k y ek.0 ey f)))))))))))))))))))))))
 
 module _ {M : Type 1} {𝓤 : Ura M} (𝓛 : Logic 𝓤) (mem : Memory → SProp 𝓤) (run : Routine → Fun 𝓤) (𝓣 : Tables 𝓤 𝓛.H) (known-place : Triple 𝓤 (𝓣.C #book·place-of) (Place 𝓛 mem run)) (known-rises : Triple 𝓤 (𝓣.C #book·rises) (Rises 𝓛 mem run)) (known-join : Triple 𝓤 (𝓣.C #book·join) (Join 𝓛 mem run)) where
   open 𝓛 use {H}
 
-  one-walks : Walks 𝓛 one.ended stayed (WpFn 𝓤 H 𝓣.C 𝓣.Λ code.function) (one.clauses 𝓛 mem run)
-  one-walks = walked 𝓛 one.ended stayed (one.clauses 𝓛 mem run) (WpFn 𝓤 H 𝓣.C 𝓣.Λ code.function) (λ κs. (mut_vals, ((λ d. SH'.lowered d ∷ []), tt))) (λ κs. (mut_Tells (named 0) κs.0 ST.the_row, ((SH'.lowers).val_is, tt)))
+  one_walks : Walks 𝓛 one.ended stayed (WpFn 𝓤 H 𝓣.C 𝓣.Λ code.function) (one.clauses 𝓛 mem run)
+  one_walks = walked 𝓛 one.ended stayed (one.clauses 𝓛 mem run) (WpFn 𝓤 H 𝓣.C 𝓣.Λ code.function) (λ κs. (mut_vals, ((λ d. SH'.lowered d ∷ []), tt))) (λ κs. (mut_Tells (named 0) κs.0 ST.the_row, ((SH'.lowers).val_is, tt)))
       (λ κs qs bounds a _ are. needs 𝓤 (InBook a.1.0) _ (λ ib. walk 𝓛 mem run κs.0 qs.0 a.0.ref_ptr.0 a.0.ref_ptr.1 a.0.ghost_name a.0.now a.1.0 𝓣.C 𝓣.Λ (fm_of 𝓤 H 𝓛.laws 𝓣) known-place known-rises known-join are.1.0 ib))
 
-  one-meets : Meets 𝓛 one.signature (WpFn 𝓤 H 𝓣.C 𝓣.Λ code.function) (one.spec 𝓛 mem run)
-  one-meets = walk_Meets 𝓛 one.ended stayed (Goes-ref 𝓛 1 0 tt (plain (λ _. ST.the_row)), (Goes-dropped 𝓛 1 (plain (λ _. SH.the_row)) yes (λ κs x f. refl), tt))
-      (one.clauses 𝓛 mem run) (WpFn 𝓤 H 𝓣.C 𝓣.Λ code.function) (WpFn-mono 𝓤 H 𝓛.laws 𝓣 code.function) one-walks
+  one_meets : Meets 𝓛 one.signature (WpFn 𝓤 H 𝓣.C 𝓣.Λ code.function) (one.spec 𝓛 mem run)
+  one_meets = walk_Meets 𝓛 one.ended stayed (Goes-ref 𝓛 1 0 tt (plain (λ _. ST.the_row)), (Goes-dropped 𝓛 1 (plain (λ _. SH.the_row)) yes (λ κs x f. refl), tt))
+      (one.clauses 𝓛 mem run) (WpFn 𝓤 H 𝓣.C 𝓣.Λ code.function) (WpFn-mono 𝓤 H 𝓛.laws 𝓣 code.function) one_walks
 
 pub bring-one-spec : {M : Type 1} → stated.statement M
 unfolding code.routine tables_of
 bring-one-spec 𝓤 𝓛 𝓜 𝓡 =
     entered 𝓤 𝓛.H (triple_of 𝓛 one.signature (one.spec 𝓛 𝓜.mem 𝓡.run))
     (tables 𝓤 𝓛.H 𝓜 𝓡 code.env).C (tables 𝓤 𝓛.H 𝓜 𝓡 code.env).Λ #lent·bring-one code.function (code.unfolded 𝓤 𝓛.H 𝓜 𝓡)
-    (one-meets 𝓛 𝓜.mem 𝓡.run (tables_of 𝓤 𝓛.H 𝓜 (tables 𝓤 𝓛.H 𝓜 𝓡 code.env))
+    (one_meets 𝓛 𝓜.mem 𝓡.run (tables_of 𝓤 𝓛.H 𝓜 (tables 𝓤 𝓛.H 𝓜 𝓡 code.env))
     (cited 𝓤 𝓛.H (Place 𝓛 𝓜.mem 𝓡.run) 𝓜 𝓡 code.env #book·place-of place-def.routine code.calls-book::place-of (place-thm.met 𝓤 𝓛 𝓜 𝓡))
     (cited 𝓤 𝓛.H (Rises 𝓛 𝓜.mem 𝓡.run) 𝓜 𝓡 code.env #book·rises rises-def.routine code.calls-book::rises (rises-thm.met 𝓤 𝓛 𝓜 𝓡))
     (cited 𝓤 𝓛.H (Join 𝓛 𝓜.mem 𝓡.run) 𝓜 𝓡 code.env #book·join join-def.routine code.calls-book::join (join-thm.met 𝓤 𝓛 𝓜 𝓡)))

@@ -81,9 +81,9 @@ use Rattle.shows.proofs.newly_shown.Met as newly-thm
 use Rattle.station.specs.declared.Station.{Station}
 use Rattle.station.specs.declared.Stepped.{Stepped}
 use Rattle.station.specs.Station.{channels, no_row, held_at, gate_tests, is_served, told_in, corrected, OffersTo}
-use Rattle.station.proofs.AfterOffer.{after-offer}
+use Rattle.station.proofs.AfterOffer.{after_offer_lem}
 use Rattle.station.proofs.ChannelRuns.{after_none}
-use Rattle.station.proofs.Served.{shut-says}
+use Rattle.station.proofs.Served.{shut_says_lem}
 use Rattle.station.specs.contracts.gate_number as gate'
 use Rattle.station.proofs.gate_number.Symbol as gate-def
 use Rattle.station.proofs.gate_number.Symbol.{name as #station·gate-number}
@@ -92,12 +92,12 @@ use Rattle.station.specs.contracts.Station as ST
 use Rattle.station.proofs.Station.TheLaws as ST'
 use Rattle.told.specs.Told.{packed}
 use Rattle.lent.specs.Lent.{OffersLent, BringsAll}
-use Rattle.lent.proofs.Borrowed.{opens-station, closes-station}
-use Rattle.lent.proofs.Gate.{shut_out, let-in, served, wide, in_bytes_lem, GateNumber, to-gate, goes-gate}
-use Rattle.lent.proofs.Item.{lowly, map_set, either_way, bytes_is, low-is, low-typed, low-item}
+use Rattle.lent.proofs.Borrowed.{opens_station, closes_station}
+use Rattle.lent.proofs.Gate.{shut_out, let_in_lem, served, wide, in_bytes_lem, GateNumber, to_gate, goes_gate}
+use Rattle.lent.proofs.Item.{lowly, map_set, either_way, bytes_is, low_is, low_typed, low_item}
 use Rattle.lent.proofs.Parts.{row_bytes, rows_val, station_val, Whole, rows_of, row_typed, with_row, row_put}
 use Rattle.lent.proofs.Turns.{newly_in}
-use Rattle.lent.proofs.Walk.{refTo, envOf, locals, free_all, local-of, sets, asks, lends-on, addr-of, addr-field, field-of, field_in}
+use Rattle.lent.proofs.Walk.{ref_to, env_of, locals, free_all, local_of, sets, asks, lends_on, KIT addr_of, addr_field, field_of_lem, field_in}
 use Rattle.lent.specs.contracts.offering.bring_all as all'
 use Rattle.lent.proofs.offering.bring_all.Symbol as all-def
 use Rattle.lent.proofs.offering.bring_all.Symbol.{name as #lent·bring-all}
@@ -134,7 +134,7 @@ refused_lent st card c e s r er t =
     let p = shut_out card c r er t in
     let alone : r ≡ packed (r ∷ []) = omega arith in
     record {
-      answer = alone ∙ ap packed (sym (shut-says card c (offer_tests (held_at st c) e s) (told_in st c e s) p.0 ∙ p.1));
+      answer = alone ∙ ap packed (sym (shut_says_lem card c (offer_tests (held_at st c) e s) (told_in st c e s) p.0 ∙ p.1));
       station = sym (after_none st card c e s p.0);
     }
 
@@ -149,7 +149,7 @@ offered_lent st card c e s p r st' n ep er br =
     let stored = is_stored p.answer in
     lent_of st card c e s st' p.answer r er
     (subst (λ (x : Station). OffersTo st card c e s (stepped x p.answer)) (sym br)
-    (after-offer st card c e s p book changed (corrected changed book st.summary) n ep (newly_brought st.book stored frame) (newly_changed st.book stored frame) refl))
+    (after_offer_lem st card c e s p book changed (corrected changed book st.summary) n ep (newly_brought st.book stored frame) (newly_changed st.book stored frame) refl))
 
 -- ---- an offered row's parts
 row_is : (p : Offered) (vs : List Val) → Is OF.the_row p vs → Is RW.the_row p.row (RW'.lowered p.row ∷ [])
@@ -208,15 +208,15 @@ module _ {M : Type 1} {𝓤 : Ura M} (𝓛 : Logic 𝓤) (at_mem : Memory → SP
   abbrev Token : Item 𝓤
   Token = ‵ (flft κ' q') ⊛ ‵ ftrue
 
-  abbrev ref-at : GName → Station → MutBor Station
-  ref-at δ st = record { ref_ptr = (b, o); ghost_name = δ; now = st }
+  abbrev ref_at_lem : GName → Station → MutBor Station
+  ref_at_lem δ st = record { ref_ptr = (b, o); ghost_name = δ; now = st }
 
   -- the station's reference at a lifetime, under a name, at a station
   abbrev Ref : Lft → GName → Station → Item 𝓤
-  Ref = refTo 𝓤 ST.the_row b o
+  Ref = ref_to 𝓤 ST.the_row b o
 
   abbrev x : Bor Station × (ℕ × (ℕ × (ℕ × (Bor (List ℕ) × Unit {0}))))
-  x = (ref-at γ h, (card, (c, (e, (s, tt)))))
+  x = (ref_at_lem γ h, (card, (c, (e, (s, tt)))))
 
   abbrev at : Vals lent.signature (κ, (κ', tt))
   at = (vptr b o ∷ [], (vint w8 card ∷ [], (vint w8 c ∷ [], (vint w32 e ∷ [], (v ∷ [], tt)))))
@@ -238,35 +238,35 @@ module _ {M : Type 1} {𝓤 : Ura M} (𝓛 : Logic 𝓤) (at_mem : Memory → SP
   abbrev row₀ : Row
   row₀ = get_or h.rows c no_row
 
-  abbrev to-offer : (Offer 𝓛 at_mem run).Ghost
-  to-offer = (((κ', tt), (q', tt), tt, (row₀, (e, (s, tt))), (RW'.lowered row₀ ∷ [], (vint w32 e ∷ [], (v ∷ [], tt)))), tt)
+  abbrev to_offer : (Offer 𝓛 at_mem run).Ghost
+  to_offer = (((κ', tt), (q', tt), tt, (row₀, (e, (s, tt))), (RW'.lowered row₀ ∷ [], (vint w32 e ∷ [], (v ∷ [], tt)))), tt)
 
-  goes-offer : Is RW.the_row row₀ (RW'.lowered row₀ ∷ []) → e < 2 ^ 32 → ent 𝓤 (⋆ 𝓛 (Token ∷ ‵ Own ∷ [])) ((Offer 𝓛 at_mem run).pre to-offer)
-  goes-offer ir ge =
+  goes_offer : Is RW.the_row row₀ (RW'.lowered row₀ ∷ []) → e < 2 ^ 32 → ent 𝓤 (⋆ 𝓛 (Token ∷ ‵ Own ∷ [])) ((Offer 𝓛 at_mem run).pre to_offer)
+  goes_offer ir ge =
       qed 𝓛 (Token ∷ ‵ Own ∷ []) ∵ nothing ! $ move ! (2 ∷ 0 ∷ []) $ fjoin ! $ owned ! u32 (Is u32) (uint_Makes 𝓛 w32) e _ (refl, ge) $ fjoin ! $
       owned ! RW.the_row (Is RW.the_row) (LL.makes RW.the_type RW'.the_plain 𝓛) row₀ _ ir $ fjoin ! $ move ! (1 ∷ 0 ∷ []) $ join ! $ frame ! $ done !
 
-  abbrev to-newly : Offered → Val → (Newly 𝓛 at_mem run).Ghost
-  to-newly p a = ((tt, tt, tt, (p.answer, (p.row.present, (p.row.strings, tt))), (a ∷ [], (vint w16 p.row.present ∷ [], (array_val (map (vint w8) p.row.strings) ∷ [], tt)))), tt)
+  abbrev to_newly : Offered → Val → (Newly 𝓛 at_mem run).Ghost
+  to_newly p a = ((tt, tt, tt, (p.answer, (p.row.present, (p.row.strings, tt))), (a ∷ [], (vint w16 p.row.present ∷ [], (array_val (map (vint w8) p.row.strings) ∷ [], tt)))), tt)
 
-  goes-newly : (p : Offered) (a : Val) → RowIs p → AnswerIs p a → ent 𝓤 (emp 𝓤) ((Newly 𝓛 at_mem run).pre (to-newly p a))
-  goes-newly p a iw ia =
+  goes_newly : (p : Offered) (a : Val) → RowIs p → AnswerIs p a → ent 𝓤 (emp 𝓤) ((Newly 𝓛 at_mem run).pre (to_newly p a))
+  goes_newly p a iw ia =
       qed 𝓛 [] ∵ nothing ! $ owned ! (Array u8 165) (Is (Array u8 165)) (Array-Makes 𝓛 u8 (uint_Makes 𝓛 w8) 165) p.row.strings _ (strings_is p.row _ iw) $ fjoin ! $
       owned ! u16 (Is u16) (uint_Makes 𝓛 w16) p.row.present _ (present_is p.row _ iw) $ fjoin ! $
       owned ! AN.the_row (Is AN.the_row) (EL.makes AN.the_type AN'.the_plain 𝓛) p.answer _ ia $ fjoin ! $ nothing ! $ join ! $ frame ! $ done !
 
-  abbrev to-told : Answer → Val → (Told 𝓛 at_mem run).Ghost
-  to-told x a = ((tt, tt, tt, (x, tt), (a ∷ [], tt)), tt)
+  abbrev to_told : Answer → Val → (Told 𝓛 at_mem run).Ghost
+  to_told x a = ((tt, tt, tt, (x, tt), (a ∷ [], tt)), tt)
 
-  goes-told : (x : Answer) (a : Val) → Is AN.the_row x (a ∷ []) → ent 𝓤 (emp 𝓤) ((Told 𝓛 at_mem run).pre (to-told x a))
-  goes-told x a ia = qed 𝓛 [] ∵ nothing ! $ owned ! AN.the_row (Is AN.the_row) (EL.makes AN.the_type AN'.the_plain 𝓛) x _ ia $ fjoin ! $ nothing ! $ join ! $ frame ! $ done !
+  goes_told : (x : Answer) (a : Val) → Is AN.the_row x (a ∷ []) → ent 𝓤 (emp 𝓤) ((Told 𝓛 at_mem run).pre (to_told x a))
+  goes_told x a ia = qed 𝓛 [] ∵ nothing ! $ owned ! AN.the_row (Is AN.the_row) (EL.makes AN.the_type AN'.the_plain 𝓛) x _ ia $ fjoin ! $ nothing ! $ join ! $ frame ! $ done !
 
-  abbrev to-all : Station → List Shown → Lft → GName → (All 𝓛 at_mem run).Ghost
-  to-all st xs κ₁ δ = (((κ₁, tt), (full_share, tt), tt, (ref-at δ st, (xs, tt)), (vptr b o ∷ [], (showns_val xs ∷ [], tt))), tt)
+  abbrev to_all : Station → List Shown → Lft → GName → (All 𝓛 at_mem run).Ghost
+  to_all st xs κ₁ δ = (((κ₁, tt), (full_share, tt), tt, (ref_at_lem δ st, (xs, tt)), (vptr b o ∷ [], (showns_val xs ∷ [], tt))), tt)
 
-  goes-all : (st : Station) (xs : List Shown) → ShownsAre xs → AllInBook xs → (κ₁ : Lft) (δ : GName)
-      → ent 𝓤 (⋆ 𝓛 (Ref κ₁ δ st ∷ ‵ (flft κ₁ full_share) ∷ [])) ((All 𝓛 at_mem run).pre (to-all st xs κ₁ δ))
-  goes-all st xs ix ai κ₁ δ =
+  goes_all : (st : Station) (xs : List Shown) → ShownsAre xs → AllInBook xs → (κ₁ : Lft) (δ : GName)
+      → ent 𝓤 (⋆ 𝓛 (Ref κ₁ δ st ∷ ‵ (flft κ₁ full_share) ∷ [])) ((All 𝓛 at_mem run).pre (to_all st xs κ₁ δ))
+  goes_all st xs ix ai κ₁ δ =
       qed 𝓛 (Ref κ₁ δ st ∷ ‵ (flft κ₁ full_share) ∷ []) ∵ says ! ai $ nothing ! $
       owned ! (Array SH.the_row 5) (Is (Array SH.the_row 5)) (Array-Makes 𝓛 SH.the_row (EL.makes SH.the_type SH'.the_plain 𝓛) 5) xs _ ix $ fjoin ! $
       move ! (1 ∷ 0 ∷ []) $ fjoin ! $ nothing ! $ move ! (2 ∷ 0 ∷ []) $ join ! $ join ! $ done !
@@ -275,8 +275,8 @@ module _ {M : Type 1} {𝓤 : Ura M} (𝓛 : Logic 𝓤) (at_mem : Memory → SP
   shown_typed xs ix = ((Array-Lawful 𝓛 SH.the_row (EL.lawful SH.the_type SH'.the_laws 𝓛 tt) 5).typed xs _ ix).0
 
   -- where there is such a channel
-  row₀-is : is_served card c ≡ true → Whole h → Is RW.the_row row₀ (RW'.lowered row₀ ∷ [])
-  row₀-is f ih = low-is RW.the_type RW'.lowers channels h.rows (rows_of h _ ih) c (served card c f) no_row
+  row₀_is : is_served card c ≡ true → Whole h → Is RW.the_row row₀ (RW'.lowered row₀ ∷ [])
+  row₀_is f ih = low_is RW.the_type RW'.lowers channels h.rows (rows_of h _ ih) c (served card c f) no_row
 
   module _ (𝓣 : Tables 𝓤 H) (known-gate : Triple 𝓤 (𝓣.C #station·gate-number) (GateNumber 𝓛 at_mem run)) (known-offer : Triple 𝓤 (𝓣.C #channel·offer) (Offer 𝓛 at_mem run)) (known-newly : Triple 𝓤 (𝓣.C #shows·newly-shown) (Newly 𝓛 at_mem run)) (known-all : Triple 𝓤 (𝓣.C #lent·bring-all) (All 𝓛 at_mem run)) (known-told : Triple 𝓤 (𝓣.C #lent·told-in) (Told 𝓛 at_mem run)) where
     abbrev C : Calls 𝓤 H
@@ -292,7 +292,7 @@ module _ {M : Type 1} {𝓤 : Ura M} (𝓛 : Logic 𝓤) (at_mem : Memory → SP
     -- all locals
     module _ (ν : Sym) (τ : Ty) (l₀ l₁ l₂ l₃ l₄ l₅ l₆ l₇ l₈ l₉ l₁₀ l₁₁ l₁₂ l₁₃ l₁₄ l₁₅ l₁₆ l₁₇ l₁₈ l₁₉ : ℕ) where
       abbrev Eₒ : Env 𝓤 H
-      Eₒ = set (envOf 𝓤 H body.locals (l₀ ∷ l₁ ∷ l₂ ∷ l₃ ∷ l₄ ∷ l₅ ∷ l₆ ∷ l₇ ∷ l₈ ∷ l₉ ∷ l₁₀ ∷ l₁₁ ∷ l₁₂ ∷ l₁₃ ∷ l₁₄ ∷ l₁₅ ∷ l₁₆ ∷ l₁₇ ∷ l₁₈ ∷ l₁₉ ∷ [])) 8 (ty_struct ν (tcons RW'.mir (tcons τ tnil)), l₈)
+      Eₒ = set (env_of 𝓤 H body.locals (l₀ ∷ l₁ ∷ l₂ ∷ l₃ ∷ l₄ ∷ l₅ ∷ l₆ ∷ l₇ ∷ l₈ ∷ l₉ ∷ l₁₀ ∷ l₁₁ ∷ l₁₂ ∷ l₁₃ ∷ l₁₄ ∷ l₁₅ ∷ l₁₆ ∷ l₁₇ ∷ l₁₈ ∷ l₁₉ ∷ [])) 8 (ty_struct ν (tcons RW'.mir (tcons τ tnil)), l₈)
 
       module _ (n : is_served card c ≡ true) (p : Offered) (ep : Offers row₀ e s.now p) (a : Val) (iw : RowIs p) (ia : AnswerIs p a) where
         -- ---- what is newly shown, once the row p was offered to and put back: nothing is asked of what the other locals hold
@@ -307,14 +307,14 @@ module _ {M : Type 1} {𝓤 : Ura M} (𝓛 : Logic 𝓤) (at_mem : Memory → SP
           from-newly : (vₖ v₂ v₃ v₄ vₛ v₅ v₉ v₁₀ v₁₁ v₁₂ v₁₃ v₁₄ v₁₅ : Val)
               → Sq 𝓛 (Ref κ γ (with_row h c p.row) ∷ ‵ (flft κ q) ∷ Token ∷ locals 𝓤 H Eₒ (none ∷ holding (vptr b o) ∷ holding vₖ ∷ holding v₂ ∷ holding v₃ ∷ holding v₄ ∷ holding vₛ ∷ holding v₅ ∷ holding (offered_val p.row a) ∷ holding (vint w64 r) ∷ none ∷ holding v₉ ∷ holding v₁₀ ∷ holding v₁₁ ∷ holding v₁₂ ∷ holding v₁₃ ∷ holding v₁₄ ∷ holding v₁₅ ∷ [])) (runs C Λ Eₒ body.t-15 (at_ret Eₒ Post))
           from-newly vₖ v₂ v₃ v₄ vₛ v₅ v₉ v₁₀ v₁₁ v₁₂ v₁₃ v₁₄ v₁₅ =
-              asks ! fm (Newly 𝓛 at_mem run) known-newly (to-newly p a) (goes-newly p a iw ia) (Array SH.the_row 5) showns_val (Array-Tells SH.the_row (λ d. SH'.lowered d ∷ []) (SH'.lowers).val_is 5) (λ ys. ys ≡ newly_of p) _ (lasts newly'.ended tt (p.answer, (p.row.present, (p.row.strings, tt)))) (λ u'. id⊢ 𝓤 _)
-              (λ P. and_then ! (field-of ! 26 refl refl 1 refl) (and_then ! (field_in ! 26 refl refl 0 3 refl refl refl) (and_then ! (field_in ! 26 refl refl 0 1 refl refl refl) (no_more !)))) (λ xs ex ix.
+              asks ! fm (Newly 𝓛 at_mem run) known-newly (to_newly p a) (goes_newly p a iw ia) (Array SH.the_row 5) showns_val (Array-Tells SH.the_row (λ d. SH'.lowered d ∷ []) (SH'.lowers).val_is 5) (λ ys. ys ≡ newly_of p) _ (lasts newly'.ended tt (p.answer, (p.row.present, (p.row.strings, tt)))) (λ u'. id⊢ 𝓤 _)
+              (λ P. and_then ! (field_of_lem ! 26 refl refl 1 refl) (and_then ! (field_in ! 26 refl refl 0 3 refl refl refl) (and_then ! (field_in ! 26 refl refl 0 1 refl refl refl) (no_more !)))) (λ xs ex ix.
               land ! (from ! (stop !)) (init ! 21 refl (shown_typed xs ix)) $
-              sets ! (addr-of ! 39 refl refl) 3 refl refl (tt, tt) $
-              lends-on ! fm ST.the_row κ q γ b o (with_row h c p.row) (All 𝓛 at_mem run) known-all (to-all (with_row h c p.row) xs) (goes-all (with_row h c p.row) xs ix (all_in xs ex)) unit (λ _. vunit) Nothing-Tells (λ st' _. BringsAll (with_row h c p.row) xs st') (Unit {0} × Unit {0}) (λ _. fsep ftrue ftrue) (λ κ₁ δ u. id⊢ 𝓤 _)
-              (λ κ₁ δ i₁ i₂. and_then ! (local-of ! 3 refl refl) (and_then ! (local-of ! 21 refl refl) (no_more !))) (λ st' y g iy.
+              sets ! (KIT addr_of ! 39 refl refl) 3 refl refl (tt, tt) $
+              lends_on ! fm ST.the_row κ q γ b o (with_row h c p.row) (All 𝓛 at_mem run) known-all (to_all (with_row h c p.row) xs) (goes_all (with_row h c p.row) xs ix (all_in xs ex)) unit (λ _. vunit) Nothing-Tells (λ st' _. BringsAll (with_row h c p.row) xs st') (Unit {0} × Unit {0}) (λ _. fsep ftrue ftrue) (λ κ₁ δ u. id⊢ 𝓤 _)
+              (λ κ₁ δ i₁ i₂. and_then ! (local_of ! 3 refl refl) (and_then ! (local_of ! 21 refl refl) (no_more !))) (λ st' y g iy.
               land ! (from ! (stop !)) (init ! 5 refl (tt, tt)) $
-              sets ! (of_opd ! (local-of ! 23 refl refl)) 41 refl refl ((uint_Lawful 𝓛 w64).typed r _ ir).0 $ returns ! (look ! 41 refl) $
+              sets ! (of_opd ! (local_of ! 23 refl refl)) 41 refl refl ((uint_Lawful 𝓛 w64).typed r _ ir).0 $ returns ! (look ! 41 refl) $
               free_all (Ends st') (holding _ ∷ holding _ ∷ holding _ ∷ holding _ ∷ holding _ ∷ holding _ ∷ holding _ ∷ holding _ ∷ holding _ ∷ holding _ ∷ holding _ ∷ holding _ ∷ holding _ ∷ holding _ ∷ holding _ ∷ holding _ ∷ holding _ ∷ holding _ ∷ holding _ ∷ holding _ ∷ []) ! $ by ! (exits st' r _ (ended xs ex st' g) ir)))
 
         -- ---- the answer told, the row put back and the borrow closed, once the row was offered to
@@ -324,17 +324,17 @@ module _ {M : Type 1} {𝓤 : Ura M} (𝓛 : Logic 𝓤) (at_mem : Memory → SP
               → Sq 𝓛 (‵ (fat full_share ST'.mir b o (station_val (rows_val h.rows) (BK'.lowered h.book) (SM'.lowered h.summary))) ∷ ‵ (fobor κ q (Body (mem ST.the_row) b o γ)) ∷ ‵ (fobs γ ((ST.the_row).coded.code h)) ∷ ‵ (fauth γ ((ST.the_row).coded.code h)) ∷ Token ∷ locals 𝓤 H Eₒ (none ∷ holding (vptr b o) ∷ holding vₖ ∷ holding v₂ ∷ holding v₃ ∷ holding v₄ ∷ holding vₛ ∷ holding (vint w64 c) ∷ holding (offered_val p.row a) ∷ none ∷ none ∷ holding v₉ ∷ holding v₁₀ ∷ holding v₁₁ ∷ holding v₁₂ ∷ holding v₁₃ ∷ [])) (runs C Λ Eₒ body.t-10 (at_ret Eₒ Post))
           from-offered vₖ v₂ v₃ v₄ vₛ v₉ v₁₀ v₁₁ v₁₂ v₁₃ =
               -- the answer in one number
-              asks ! fm (Told 𝓛 at_mem run) known-told (to-told p.answer a) (goes-told p.answer a ia) u64 (vint w64) (uint_Tells w64) (λ r. r ≡ packed (answer_paper p.answer)) _ (lasts told'.ended tt (p.answer, tt)) (λ u'. id⊢ 𝓤 _)
-              (λ P. and_then ! (field-of ! 28 refl refl 1 refl) (no_more !)) (λ r er ir.
+              asks ! fm (Told 𝓛 at_mem run) known-told (to_told p.answer a) (goes_told p.answer a ia) u64 (vint w64) (uint_Tells w64) (λ r. r ≡ packed (answer_paper p.answer)) _ (lasts told'.ended tt (p.answer, tt)) (λ u'. id⊢ 𝓤 _)
+              (λ P. and_then ! (field_of_lem ! 28 refl refl 1 refl) (no_more !)) (λ r er ir.
               land ! (from ! (stop !)) (init ! 25 refl ((uint_Lawful 𝓛 w64).typed r _ ir).0) $
               -- the row, back
-              assigns ! (bin ! (local-of ! 29 refl refl) (lit ! tt) (record { fits = in_bytes_lem card c n })) (from ! (stop !)) (store ! 19 refl (tt, record { fits = in_bytes_lem card c n })) $
-              sets ! (addr-field ! 41 refl refl ST'.mir 0 refl) 11 refl refl (tt, tt) $
-              sets ! (bin ! (local-of ! 11 refl refl) (local-of ! 19 refl refl) tt) 9 refl refl (tt, tt) $
+              assigns ! (bin ! (local_of ! 29 refl refl) (lit ! tt) (record { fits = in_bytes_lem card c n })) (from ! (stop !)) (store ! 19 refl (tt, record { fits = in_bytes_lem card c n })) $
+              sets ! (addr_field ! 41 refl refl ST'.mir 0 refl) 11 refl refl (tt, tt) $
+              sets ! (bin ! (local_of ! 11 refl refl) (local_of ! 19 refl refl) tt) 9 refl refl (tt, tt) $
               rewrite ! 9 (λ (z : ℕ). ‵ (fat full_share ty_ptr l₁₇ 0 (vptr b z))) (sym (place_is row_bytes (o + 0) c)) refl $
-              assigns ! (of_opd ! (load ! (from ! (fld ! refl (stop !))) (look_in ! 27 (sub ! 0 refl (whole !))))) (from ! (hop ! (look ! 9 refl) (stop !))) (store_in ! 0 (low-item ! RW.the_type RW'.lowers h.rows (rows_of h _ ih) c (served card c n) no_row (sub ! 0 refl (whole !))) (row_typed 𝓛 p.row iw)) $
+              assigns ! (of_opd ! (load ! (from ! (fld ! refl (stop !))) (look_in ! 27 (sub ! 0 refl (whole !))))) (from ! (hop ! (look ! 9 refl) (stop !))) (store_in ! 0 (low_item ! RW.the_type RW'.lowers h.rows (rows_of h _ ih) c (served card c n) no_row (sub ! 0 refl (whole !))) (row_typed 𝓛 p.row iw)) $
               rewrite ! 0 (λ (ws : List Val). ‵ (fat full_share ST'.mir b o (station_val (array_val ws) (BK'.lowered h.book) (SM'.lowered h.summary)))) (map_set RW'.lowered h.rows c p.row) refl $
-              closes-station ! tt (with_row h c p.row) (station_val (rows_val (set h.rows c p.row)) (BK'.lowered h.book) (SM'.lowered h.summary)) b o (row_put h c p.row ih iw) $
+              closes_station ! tt (with_row h c p.row) (station_val (rows_val (set h.rows c p.row)) (BK'.lowered h.book) (SM'.lowered h.summary)) b o (row_put h c p.row ih iw) $
               feq_i ! (List Val) (vptr b o ∷ []) (vptr b o ∷ []) refl $ fjoin3 ! $
               from-newly r er ir _ _ _ _ _ _ _ _ _ _ _ _ _)
 
@@ -347,26 +347,26 @@ module _ {M : Type 1} {𝓤 : Ura M} (𝓛 : Logic 𝓤) (at_mem : Memory → SP
           move ! (41 ∷ []) $ fsplit ! $ move ! (1 ∷ []) $ fsplit ! $ drop ! $ fsplit ! $ drop ! $ fsplit ! $ drop ! $ fsplit ! $ move ! (1 ∷ []) $ drop ! $ move ! (42 ∷ []) $ split ! $ move ! (3 ∷ 0 ∷ 1 ∷ 2 ∷ []) $
           -- [the reference; its token; the slice's; what the slice owns; _19; …; _0; …]: local i is at 42 - 2 · i
           -- the gate's number
-          asks ! fm (GateNumber 𝓛 at_mem run) known-gate (to-gate 𝓛 at_mem run card c) (goes-gate 𝓛 at_mem run card c gk gc) u64 (vint w64) (uint_Tells w64) (λ r. r ≡ first_of (gate_tests card c)) _ (lasts gate'.ended tt (card, (c, tt))) (λ u. id⊢ 𝓤 _)
-          (λ P. and_then ! (local-of ! 39 refl refl) (and_then ! (local-of ! 37 refl refl) (no_more !))) (λ z ez iz.
+          asks ! fm (GateNumber 𝓛 at_mem run) known-gate (to_gate 𝓛 at_mem run card c) (goes_gate 𝓛 at_mem run card c gk gc) u64 (vint w64) (uint_Tells w64) (λ r. r ≡ first_of (gate_tests card c)) _ (lasts gate'.ended tt (card, (c, tt))) (λ u. id⊢ 𝓤 _)
+          (λ P. and_then ! (local_of ! 39 refl refl) (and_then ! (local_of ! 37 refl refl) (no_more !))) (λ z ez iz.
           land ! (from ! (stop !)) (init ! 30 refl ((uint_Lawful 𝓛 w64).typed z _ iz).0) $
-          sets ! (bin ! (lit ! tt) (local-of ! 30 refl refl) tt) 20 refl refl (tt, tt) $
-          either_way ! (local-of ! 20 refl refl)
-          (λ t. sets ! (of_opd ! (local-of ! 30 refl refl)) 42 refl refl ((uint_Lawful 𝓛 w64).typed z _ iz).0 $
+          sets ! (bin ! (lit ! tt) (local_of ! 30 refl refl) tt) 20 refl refl (tt, tt) $
+          either_way ! (local_of ! 20 refl refl)
+          (λ t. sets ! (of_opd ! (local_of ! 30 refl refl)) 42 refl refl ((uint_Lawful 𝓛 w64).typed z _ iz).0 $
           returns_within ! Post refl (look ! 42 refl) $ move ! (3 ∷ []) $ drop ! $ free_all (Ends h) (holding _ ∷ holding _ ∷ holding _ ∷ holding _ ∷ holding _ ∷ holding _ ∷ holding _ ∷ none ∷ none ∷ none ∷ none ∷ holding _ ∷ []) ! $ by ! (exits h z _ (refused_lent h card c e s.now z ez t) iz))
-          (λ no. let n = let-in card c z ez no in fsplit3 ! $ drop ! $
-          opens-station ! tt h b o (λ ih.
+          (λ no. let n = let_in_lem card c z ez no in fsplit3 ! $ drop ! $
+          opens_station ! tt h b o (λ ih.
           -- [the station's cell; the open borrow; obs; auth; the slice's token; what the slice owns; _19; …; _0; …]: local i is at 44 - 2 · i
-          sets ! (un ! (local-of ! 38 refl refl) (record { fits = wide card c n })) 30 refl refl (tt, record { fits = wide card c n }) $
-          sets ! (bin ! (local-of ! 30 refl refl) (lit ! tt) (record { fits = in_bytes_lem card c n })) 20 refl refl (tt, record { fits = in_bytes_lem card c n }) $
-          sets ! (addr-field ! 42 refl refl ST'.mir 0 refl) 18 refl refl (tt, tt) $
-          sets ! (bin ! (local-of ! 18 refl refl) (local-of ! 20 refl refl) tt) 16 refl refl (tt, tt) $
+          sets ! (un ! (local_of ! 38 refl refl) (record { fits = wide card c n })) 30 refl refl (tt, record { fits = wide card c n }) $
+          sets ! (bin ! (local_of ! 30 refl refl) (lit ! tt) (record { fits = in_bytes_lem card c n })) 20 refl refl (tt, record { fits = in_bytes_lem card c n }) $
+          sets ! (addr_field ! 42 refl refl ST'.mir 0 refl) 18 refl refl (tt, tt) $
+          sets ! (bin ! (local_of ! 18 refl refl) (local_of ! 20 refl refl) tt) 16 refl refl (tt, tt) $
           rewrite ! 16 (λ (z : ℕ). ‵ (fat full_share ty_ptr l₁₄ 0 (vptr b z))) (sym (place_is row_bytes (o + 0) c)) refl $
-          sets ! (of_opd ! (load ! (from ! (hop ! (look ! 16 refl) (stop !))) (look_in ! 0 (low-item ! RW.the_type RW'.lowers h.rows (rows_of h _ ih) c (served card c n) no_row (sub ! 0 refl (whole !)))))) 14 refl refl (low-typed RW.the_type RW'.lowers channels h.rows (rows_of h _ ih) c (served card c n) no_row RW'.mir (row_typed 𝓛)) $
+          sets ! (of_opd ! (load ! (from ! (hop ! (look ! 16 refl) (stop !))) (look_in ! 0 (low_item ! RW.the_type RW'.lowers h.rows (rows_of h _ ih) c (served card c n) no_row (sub ! 0 refl (whole !)))))) 14 refl refl (low_typed RW.the_type RW'.lowers channels h.rows (rows_of h _ ih) c (served card c n) no_row RW'.mir (row_typed 𝓛)) $
           rewrite ! 14 (λ (w : Val). ‵ (fat full_share RW'.mir l₁₅ 0 w)) (get_or-map RW'.lowered h.rows c no_row) refl $
           -- the string offered to the row; the slice stays with the callee, its token comes back
-          move ! (4 ∷ 5 ∷ []) $ use2 𝓛 (raw ((Offer 𝓛 at_mem run).pre to-offer)) (goes-offer (row₀-is n ih) ge) $
-          calls_at ! fm (Offer 𝓛 at_mem run) known-offer to-offer (and_then ! (local-of ! 13 refl refl) (and_then ! (local-of ! 35 refl refl) (and_then ! (local-of ! 33 refl refl) (no_more !)))) (λ u.
+          move ! (4 ∷ 5 ∷ []) $ use2 𝓛 (raw ((Offer 𝓛 at_mem run).pre to_offer)) (goes_offer (row₀_is n ih) ge) $
+          calls_at ! fm (Offer 𝓛 at_mem run) known-offer to_offer (and_then ! (local_of ! 13 refl refl) (and_then ! (local_of ! 35 refl refl) (and_then ! (local_of ! 33 refl refl) (no_more !)))) (λ u.
           use1 𝓛 (later (some (λ (p : Offered). (Token ⊛ ‵ ((OF.the_row).own_val p (u ∷ []))) ⊛ some (λ (zs : _). ‵ (lasts offer'.ended (κ', tt) (row₀, (e, (s, tt))) zs) ⊛ raw (fact 𝓤 (Offers row₀ e s.now p)))))) (id⊢ 𝓤 _) $ await ! tt $ pick ! (λ p.
           split ! $ move ! (1 ∷ []) $ pick ! (λ zs. split ! $ drop ! $ heard ! (Offers row₀ e s.now p) (λ ep. split ! $ move ! (1 ∷ []) $
           facts ! OF.the_row (Is OF.the_row) (shows 𝓛 OF.the_row) p (u ∷ []) (λ ip. move ! (1 ∷ 2 ∷ 3 ∷ 4 ∷ []) $
@@ -378,14 +378,14 @@ module _ {M : Type 1} {𝓤 : Ura M} (𝓛 : Logic 𝓤) (at_mem : Memory → SP
 module _ {M : Type 1} {𝓤 : Ura M} (𝓛 : Logic 𝓤) (mem : Memory → SProp 𝓤) (run : Routine → Fun 𝓤) (𝓣 : Tables 𝓤 𝓛.H) (known-gate : Triple 𝓤 (𝓣.C #station·gate-number) (GateNumber 𝓛 mem run)) (known-offer : Triple 𝓤 (𝓣.C #channel·offer) (Offer 𝓛 mem run)) (known-newly : Triple 𝓤 (𝓣.C #shows·newly-shown) (Newly 𝓛 mem run)) (known-all : Triple 𝓤 (𝓣.C #lent·bring-all) (All 𝓛 mem run)) (known-told : Triple 𝓤 (𝓣.C #lent·told-in) (Told 𝓛 mem run)) where
   open 𝓛 use {H}
 
-  lent-walks : Walks 𝓛 lent.ended stayed (WpFn 𝓤 H 𝓣.C 𝓣.Λ code.function) (lent.clauses 𝓛 mem run)
-  lent-walks = walked 𝓛 lent.ended stayed (lent.clauses 𝓛 mem run) (WpFn 𝓤 H 𝓣.C 𝓣.Λ code.function) (λ κs. (mut_vals, (uint_vals w8, (uint_vals w8, (uint_vals w32, (shr_slice_vals, tt)))))) (λ κs. (mut_Tells (named 0) κs.0 ST.the_row, (uint_Tells w8, (uint_Tells w8, (uint_Tells w32, (shr_slice_Tells (named 1) κs.1.0 u8, tt))))))
+  lent_walks : Walks 𝓛 lent.ended stayed (WpFn 𝓤 H 𝓣.C 𝓣.Λ code.function) (lent.clauses 𝓛 mem run)
+  lent_walks = walked 𝓛 lent.ended stayed (lent.clauses 𝓛 mem run) (WpFn 𝓤 H 𝓣.C 𝓣.Λ code.function) (λ κs. (mut_vals, (uint_vals w8, (uint_vals w8, (uint_vals w32, (shr_slice_vals, tt)))))) (λ κs. (mut_Tells (named 0) κs.0 ST.the_row, (uint_Tells w8, (uint_Tells w8, (uint_Tells w32, (shr_slice_Tells (named 1) κs.1.0 u8, tt))))))
       (λ κs qs bounds a _ are. via 𝓤 _ (fst∗ 𝓤 _ (emp 𝓤)) (walk 𝓛 mem run κs.0 κs.1.0 qs.0 qs.1.0 a.0.ref_ptr.0 a.0.ref_ptr.1 a.0.ghost_name a.0.now a.1.0 a.1.1.0 a.1.1.1.0 a.1.1.1.1.0 𝓣 known-gate known-offer known-newly known-all known-told are.1.0.1 are.1.1.0.1 are.1.1.1.0.1 are.1.1.1.1.0))
 
   lent_meets : Meets 𝓛 lent.signature (WpFn 𝓤 H 𝓣.C 𝓣.Λ code.function) (lent.spec 𝓛 mem run)
   lent_meets = walk_Meets 𝓛 lent.ended stayed
       (Goes-ref 𝓛 2 0 tt (plain (λ _. ST.the_row)), (Goes-dropped 𝓛 2 (plain (λ _. u8)) yes (λ κs x f. refl), (Goes-dropped 𝓛 2 (plain (λ _. u8)) yes (λ κs x f. refl), (Goes-dropped 𝓛 2 (plain (λ _. u32)) yes (λ κs x f. refl), (Goes-dropped 𝓛 2 slice_slot yes (λ κs x f. refl), tt)))))
-      (lent.clauses 𝓛 mem run) (WpFn 𝓤 H 𝓣.C 𝓣.Λ code.function) (WpFn-mono 𝓤 H 𝓛.laws 𝓣 code.function) lent-walks
+      (lent.clauses 𝓛 mem run) (WpFn 𝓤 H 𝓣.C 𝓣.Λ code.function) (WpFn-mono 𝓤 H 𝓛.laws 𝓣 code.function) lent_walks
 
 pub spineyarrow-offer-spec : {M : Type 1} → stated.statement M
 unfolding code.routine tables_of

@@ -57,10 +57,10 @@ use Rattle.station.specs.declared.Station.{Station}
 use Rattle.station.specs.contracts.Station as ST
 use Rattle.station.proofs.Station.TheLaws as ST'
 use Rattle.lent.specs.Lent.{SumsUp}
-use Rattle.lent.proofs.Borrowed.{opens-station, closes-station}
+use Rattle.lent.proofs.Borrowed.{opens_station, closes_station}
 use Rattle.lent.proofs.Item.{either_way}
-use Rattle.lent.proofs.Parts.{rows_val, book_val, station_val, Whole, rows_of, book_of_lem, entries_of, made_of, summary-typed}
-use Rattle.lent.proofs.Walk.{envOf, locals, free_all, keeps, local-of, sets, asks}
+use Rattle.lent.proofs.Parts.{rows_val, book_val, station_val, Whole, rows_of, book_of_lem, entries_of, made_of, summary_typed}
+use Rattle.lent.proofs.Walk.{env_of, locals, free_all, keeps, local_of, sets, asks}
 use Rattle.lent.specs.contracts.offering.sum_up.Key.{name as #lent·sum-up}
 use Rattle.lent.specs.contracts.offering.sum_up as sum
 use Rattle.lent.proofs.offering.sum_up.Statement as stated
@@ -120,17 +120,17 @@ module _ {M : Type 1} {𝓤 : Ura M} (𝓛 : Logic 𝓤) (at_mem : Memory → SP
   abbrev Entries : Type 0
   Entries = Is (Array EN.the_row slots) es (array_val us ∷ [])
 
-  abbrev to-walk : (Walk 𝓛 at_mem run).Ghost
-  to-walk = ((tt, tt, tt, (es, tt), (array_val us ∷ [], tt)), tt)
+  abbrev to_walk : (Walk 𝓛 at_mem run).Ghost
+  to_walk = ((tt, tt, tt, (es, tt), (array_val us ∷ [], tt)), tt)
 
-  goes-walk : Entries → ent 𝓤 (emp 𝓤) ((Walk 𝓛 at_mem run).pre to-walk)
-  goes-walk ie =
+  goes_walk : Entries → ent 𝓤 (emp 𝓤) ((Walk 𝓛 at_mem run).pre to_walk)
+  goes_walk ie =
       qed 𝓛 [] ∵ nothing ! $ owned ! (Array EN.the_row slots) (Is (Array EN.the_row slots)) (Array-Makes 𝓛 EN.the_row (LL.makes EN.the_type EN'.the_plain 𝓛) slots) es _ ie $ fjoin ! $
       nothing ! $ join ! $ frame ! $ done !
 
   -- what the walk shows
-  entries-are : Whole h → Entries
-  entries-are ih = (us, ((refl, (entries_of h _ ih).0), (entries_of h _ ih).1))
+  entries_are : Whole h → Entries
+  entries_are ih = (us, ((refl, (entries_of h _ ih).0), (entries_of h _ ih).1))
 
   left_is : (z : Summary) → Is SM.the_row z (SM'.lowered z ∷ []) → Whole h → Is ST.the_row (left h z) (station_val (rows_val h.rows) (book_val (array_val us)) (SM'.lowered z) ∷ [])
   left_is z iz ih = made_of h.rows h.book z (rows_of h _ ih) (book_of_lem h _ ih) iz
@@ -138,13 +138,13 @@ module _ {M : Type 1} {𝓤 : Ura M} (𝓛 : Logic 𝓤) (at_mem : Memory → SP
   module _ (C : Calls 𝓤 H) (Λ : Loops 𝓤 H) (fm : FmC 𝓤 H 𝓛.laws C) (known-walk : Triple 𝓤 (C #summary·walk-book) (Walk 𝓛 at_mem run)) where
     module _ (l₀ l₁ l₂ l₃ l₄ l₅ : ℕ) where
       abbrev En : Env 𝓤 H
-      En = envOf 𝓤 H body.locals (l₀ ∷ l₁ ∷ l₂ ∷ l₃ ∷ l₄ ∷ l₅ ∷ [])
+      En = env_of 𝓤 H body.locals (l₀ ∷ l₁ ∷ l₂ ∷ l₃ ∷ l₄ ∷ l₅ ∷ [])
 
       -- from either arm, with all locals emptied: the borrow is closed at the station that was left
       leaves : (st : Station) (v : Val) → Is ST.the_row st (v ∷ []) → SumsUp h c st
           → Sq 𝓛 (‵ (fat full_share ST'.mir b o v) ∷ ‵ (fobor κ q (Body (mem ST.the_row) b o γ)) ∷ ‵ (fobs γ ((ST.the_row).coded.code h)) ∷ ‵ (fauth γ ((ST.the_row).coded.code h)) ∷ locals 𝓤 H En []) (runs C Λ En body.t-3 (at_ret En Post))
       leaves st v iv e =
-          closes-station ! tt st v b o iv $
+          closes_station ! tt st v b o iv $
           -- [obs; the borrow; the token; _5; …; _0; …]
           assigns ! (of_opd ! (unit_lit !)) (from ! (stop !)) (init ! 13 refl (tt, tt)) $ returns ! (look ! 13 refl) $ forget ! 13 refl $ free_all (Ends st) [] ! $ by ! (exits st e)
 
@@ -155,16 +155,16 @@ module _ {M : Type 1} {𝓤 : Ura M} (𝓛 : Logic 𝓤) (at_mem : Memory → SP
         pass1 ! (init ! 8 refl (tt, tt)) $ pass1 ! (init ! 6 refl (tt, tt)) $ pass0 ! $
         -- [what the reference owns; the locals; the token and true]
         move ! (13 ∷ []) $ fsplit ! $ fsplit3 ! $ drop ! $ move ! (2 ∷ []) $ drop ! $ move ! (14 ∷ []) $ split ! $ move ! (1 ∷ []) $ drop ! $ move ! (1 ∷ 2 ∷ 0 ∷ []) $
-        opens-station ! tt h b o (λ ih.
+        opens_station ! tt h b o (λ ih.
         -- [the station's cell; the open borrow; obs; auth; _5; …; _0; …]: local i is at 14 - 2 · i
-        sets ! (of_opd ! (local-of ! 10 refl refl)) 8 refl refl (tt, tt) $
-        either_way ! (local-of ! 8 refl refl)
+        sets ! (of_opd ! (local_of ! 10 refl refl)) 8 refl refl (tt, tt) $
+        either_way ! (local_of ! 8 refl refl)
         (λ t. sets ! (of_opd ! (load ! (from ! (hop ! (look ! 12 refl) (fld ! refl (fld ! refl (stop !))))) (look_in ! 0 (sub ! 0 refl (sub ! 1 refl (whole !)))))) 4 refl refl
-        ((Array-Lawful 𝓛 EN.the_row (LL.lawful EN.the_type EN'.the_laws 𝓛) slots).typed es _ (entries-are ih)).0 $
-        asks ! fm (Walk 𝓛 at_mem run) known-walk to-walk (goes-walk (entries-are ih)) SM.the_row SM'.lowered (SM'.lowers).val_is (λ z. z ≡ summaryOf es) _ (lasts walk'.ended tt (es, tt)) (λ u. id⊢ 𝓤 _)
-        (λ P. and_then ! (local-of ! 5 refl refl) (no_more !)) (λ z ez iz.
-        land ! (from ! (stop !)) (init ! 6 refl (summary-typed 𝓛 z iz)) $
-        assigns_last ! (of_opd ! (local-of ! 6 refl refl)) (from ! (hop ! (look ! 12 refl) (fld ! refl (stop !)))) (store_in ! 0 (sub ! 2 refl (whole !)) (summary-typed 𝓛 z iz)) $
+        ((Array-Lawful 𝓛 EN.the_row (LL.lawful EN.the_type EN'.the_laws 𝓛) slots).typed es _ (entries_are ih)).0 $
+        asks ! fm (Walk 𝓛 at_mem run) known-walk to_walk (goes_walk (entries_are ih)) SM.the_row SM'.lowered (SM'.lowers).val_is (λ z. z ≡ summaryOf es) _ (lasts walk'.ended tt (es, tt)) (λ u. id⊢ 𝓤 _)
+        (λ P. and_then ! (local_of ! 5 refl refl) (no_more !)) (λ z ez iz.
+        land ! (from ! (stop !)) (init ! 6 refl (summary_typed 𝓛 z iz)) $
+        assigns_last ! (of_opd ! (local_of ! 6 refl refl)) (from ! (hop ! (look ! 12 refl) (fld ! refl (stop !)))) (store_in ! 0 (sub ! 2 refl (whole !)) (summary_typed 𝓛 z iz)) $
         exec ! C Λ (En l₀ l₁ l₂ l₃ l₄ l₅) body.t-3 (at_ret (En l₀ l₁ l₂ l₃ l₄ l₅) Post) $
         keeps (_ ∷ _ ∷ _ ∷ _ ∷ []) (En l₀ l₁ l₂ l₃ l₄ l₅) [] (none ∷ holding _ ∷ holding _ ∷ holding _ ∷ holding _ ∷ holding _ ∷ []) ! $
         leaves l₀ l₁ l₂ l₃ l₄ l₅ (left h z) _ (left_is z iz ih) (summed h z c ez t)))
@@ -174,13 +174,13 @@ module _ {M : Type 1} {𝓤 : Ura M} (𝓛 : Logic 𝓤) (at_mem : Memory → SP
 module _ {M : Type 1} {𝓤 : Ura M} (𝓛 : Logic 𝓤) (mem : Memory → SProp 𝓤) (run : Routine → Fun 𝓤) (𝓣 : Tables 𝓤 𝓛.H) (known-walk : Triple 𝓤 (𝓣.C #summary·walk-book) (Walk 𝓛 mem run)) where
   open 𝓛 use {H}
 
-  sum-walks : Walks 𝓛 sum.ended stayed (WpFn 𝓤 H 𝓣.C 𝓣.Λ code.function) (sum.clauses 𝓛 mem run)
-  sum-walks = walked 𝓛 sum.ended stayed (sum.clauses 𝓛 mem run) (WpFn 𝓤 H 𝓣.C 𝓣.Λ code.function) (λ κs. (mut_vals, (bool_vals, tt))) (λ κs. (mut_Tells (named 0) κs.0 ST.the_row, (bool_Tells, tt)))
+  sum_walks : Walks 𝓛 sum.ended stayed (WpFn 𝓤 H 𝓣.C 𝓣.Λ code.function) (sum.clauses 𝓛 mem run)
+  sum_walks = walked 𝓛 sum.ended stayed (sum.clauses 𝓛 mem run) (WpFn 𝓤 H 𝓣.C 𝓣.Λ code.function) (λ κs. (mut_vals, (bool_vals, tt))) (λ κs. (mut_Tells (named 0) κs.0 ST.the_row, (bool_Tells, tt)))
       (λ κs qs bounds a _ are. via 𝓤 _ (fst∗ 𝓤 _ (emp 𝓤)) (walk 𝓛 mem run κs.0 qs.0 a.0.ref_ptr.0 a.0.ref_ptr.1 a.0.ghost_name a.0.now a.1.0 𝓣.C 𝓣.Λ (fm_of 𝓤 H 𝓛.laws 𝓣) known-walk))
 
   sum_meets : Meets 𝓛 sum.signature (WpFn 𝓤 H 𝓣.C 𝓣.Λ code.function) (sum.spec 𝓛 mem run)
   sum_meets = walk_Meets 𝓛 sum.ended stayed (Goes-ref 𝓛 1 0 tt (plain (λ _. ST.the_row)), (Goes-dropped 𝓛 1 (plain (λ _. bool)) yes (λ κs x f. refl), tt))
-      (sum.clauses 𝓛 mem run) (WpFn 𝓤 H 𝓣.C 𝓣.Λ code.function) (WpFn-mono 𝓤 H 𝓛.laws 𝓣 code.function) sum-walks
+      (sum.clauses 𝓛 mem run) (WpFn 𝓤 H 𝓣.C 𝓣.Λ code.function) (WpFn-mono 𝓤 H 𝓛.laws 𝓣 code.function) sum_walks
 
 pub sum-up-spec : {M : Type 1} → stated.statement M
 unfolding code.routine tables_of

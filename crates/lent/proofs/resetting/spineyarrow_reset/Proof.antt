@@ -54,8 +54,8 @@ use Rattle.channel.proofs.empty_row.Symbol.{name as #channel·empty-row}
 use Rattle.channel.proofs.empty_row.Met as empty-thm
 use Rattle.station.specs.declared.Station.{Station}
 use Rattle.station.specs.Station.{no_row, gate_tests, is_served, station_reset}
-use Rattle.station.proofs.ChannelRuns.{reset-none}
-use Rattle.station.proofs.Served.{open-says}
+use Rattle.station.proofs.ChannelRuns.{reset_none}
+use Rattle.station.proofs.Served.{open_says}
 use Rattle.station.specs.contracts.gate_number as gate'
 use Rattle.station.proofs.gate_number.Symbol as gate-def
 use Rattle.station.proofs.gate_number.Symbol.{name as #station·gate-number}
@@ -64,11 +64,11 @@ use Rattle.told.specs.Told.{packed}
 use Rattle.station.specs.contracts.Station as ST
 use Rattle.station.proofs.Station.TheLaws as ST'
 use Rattle.lent.specs.Lent.{ResetsLent}
-use Rattle.lent.proofs.Borrowed.{opens-station, closes-station}
-use Rattle.lent.proofs.Gate.{shut_out, let-in, served, wide, in_bytes_lem, GateNumber, to-gate, goes-gate}
-use Rattle.lent.proofs.Item.{map_set, either_way, low-item}
+use Rattle.lent.proofs.Borrowed.{opens_station, closes_station}
+use Rattle.lent.proofs.Gate.{shut_out, let_in_lem, served, wide, in_bytes_lem, GateNumber, to_gate, goes_gate}
+use Rattle.lent.proofs.Item.{map_set, either_way, low_item}
 use Rattle.lent.proofs.Parts.{row_bytes, rows_val, station_val, rows_of, row_typed, with_row, row_put}
-use Rattle.lent.proofs.Walk.{free_all, local-of, sets, asks, addr-field}
+use Rattle.lent.proofs.Walk.{free_all, local_of, sets, asks, addr_field}
 use Rattle.lent.specs.contracts.resetting.spineyarrow_reset.Key.{name as #lent·spineyarrow-reset}
 use Rattle.lent.specs.contracts.resetting.spineyarrow_reset as lent
 use Rattle.lent.proofs.resetting.spineyarrow_reset.Statement as stated
@@ -82,11 +82,11 @@ refused_lent : (st : Station) (card c r : ℕ) → r ≡ first_of (gate_tests ca
 refused_lent st card c r er t =
     let p = shut_out card c r er t in
     let alone : r ≡ packed (r ∷ []) = omega arith in
-    record { answer = alone ∙ ap packed (sym p.1); station = sym (reset-none st card c p.0) }
+    record { answer = alone ∙ ap packed (sym p.1); station = sym (reset_none st card c p.0) }
 
 emptied_lent : (st : Station) (card c : ℕ) (r : Row) → is_served card c ≡ true → r ≡ empty_row → ResetsLent st card c (with_row st c r) 0
 unfolding station_reset
-emptied_lent st card c r n e = record { answer = ap packed (sym (open-says card c [] [] n)); station = rw (n, e) refl }
+emptied_lent st card c r n e = record { answer = ap packed (sym (open_says card c [] [] n)); station = rw (n, e) refl }
 
 module _ {M : Type 1} {𝓤 : Ura M} (𝓛 : Logic 𝓤) (mem : Memory → SProp 𝓤) (run : Routine → Fun 𝓤) where
   -- the contract that the proof cites
@@ -96,14 +96,14 @@ module _ {M : Type 1} {𝓤 : Ura M} (𝓛 : Logic 𝓤) (mem : Memory → SProp
 module _ {M : Type 1} {𝓤 : Ura M} (𝓛 : Logic 𝓤) (at_mem : Memory → SProp 𝓤) (run : Routine → Fun 𝓤) (κ : Lft) (q : Share) (b o : ℕ) (γ : GName) (h : Station) (card c : ℕ) where
   open 𝓛 use {H}
 
-  abbrev ref-at : Station → MutBor Station
-  ref-at st = record { ref_ptr = (b, o); ghost_name = γ; now = st }
+  abbrev ref_at_lem : Station → MutBor Station
+  ref_at_lem st = record { ref_ptr = (b, o); ghost_name = γ; now = st }
 
   abbrev Ref : Station → Item 𝓤
-  Ref st = ‵ ((MutRef (named 0) κ ST.the_row).own_val (ref-at st) (vptr b o ∷ []))
+  Ref st = ‵ ((MutRef (named 0) κ ST.the_row).own_val (ref_at_lem st) (vptr b o ∷ []))
 
   abbrev x : MutBor Station × (ℕ × (ℕ × Unit {0}))
-  x = (ref-at h, (card, (c, tt)))
+  x = (ref_at_lem h, (card, (c, tt)))
 
   abbrev at : Vals lent.signature (κ, tt)
   at = (vptr b o ∷ [], (vint w8 card ∷ [], (vint w8 c ∷ [], tt)))
@@ -122,11 +122,11 @@ module _ {M : Type 1} {𝓤 : Ura M} (𝓛 : Logic 𝓤) (at_mem : Memory → SP
       owned ! u64 (Is u64) (uint_Makes 𝓛 w64) r _ is $ done !
 
   -- what the callee asks: nothing
-  abbrev to-empty : (Empty 𝓛 at_mem run).Ghost
-  to-empty = ((tt, tt, tt, tt, tt), tt)
+  abbrev to_empty : (Empty 𝓛 at_mem run).Ghost
+  to_empty = ((tt, tt, tt, tt, tt), tt)
 
-  goes-empty : ent 𝓤 (emp 𝓤) ((Empty 𝓛 at_mem run).pre to-empty)
-  goes-empty = qed 𝓛 [] ∵ nothing ! $ nothing ! $ join ! $ frame ! $ done !
+  goes_empty : ent 𝓤 (emp 𝓤) ((Empty 𝓛 at_mem run).pre to_empty)
+  goes_empty = qed 𝓛 [] ∵ nothing ! $ nothing ! $ join ! $ frame ! $ done !
 
   module _ (C : Calls 𝓤 H) (Λ : Loops 𝓤 H) (fm : FmC 𝓤 H 𝓛.laws C) (known-gate : Triple 𝓤 (C #station·gate-number) (GateNumber 𝓛 at_mem run)) (known-empty : Triple 𝓤 (C #channel·empty-row) (Empty 𝓛 at_mem run)) (gk : card < 2 ^ 8) (gc : c < 2 ^ 8) where
     walk : ent 𝓤 (on_entry 𝓛 lent.signature (κ, tt) (q, tt) x at) (WpFn 𝓤 H C Λ code.function (vptr b o ∷ vint w8 card ∷ vint w8 c ∷ []) Post)
@@ -137,27 +137,27 @@ module _ {M : Type 1} {𝓤 : Ura M} (𝓛 : Logic 𝓤) (at_mem : Memory → SP
         move ! (23 ∷ []) $ fsplit ! $ move ! (1 ∷ []) $ drop ! $ move ! (23 ∷ []) $ split ! $ move ! (1 ∷ []) $ drop ! $ move ! (1 ∷ 0 ∷ []) $
         -- [the reference; its token; _10; …; _0; …]: local i is at 22 - 2 · i
         -- the gate's number
-        asks ! fm (GateNumber 𝓛 at_mem run) known-gate (to-gate 𝓛 at_mem run card c) (goes-gate 𝓛 at_mem run card c gk gc) u64 (vint w64) (uint_Tells w64) (λ r. r ≡ first_of (gate_tests card c)) _ (lasts gate'.ended tt (card, (c, tt))) (λ u. id⊢ 𝓤 _)
-        (λ P. and_then ! (local-of ! 19 refl refl) (and_then ! (local-of ! 17 refl refl) (no_more !))) (λ z ez iz.
+        asks ! fm (GateNumber 𝓛 at_mem run) known-gate (to_gate 𝓛 at_mem run card c) (goes_gate 𝓛 at_mem run card c gk gc) u64 (vint w64) (uint_Tells w64) (λ r. r ≡ first_of (gate_tests card c)) _ (lasts gate'.ended tt (card, (c, tt))) (λ u. id⊢ 𝓤 _)
+        (λ P. and_then ! (local_of ! 19 refl refl) (and_then ! (local_of ! 17 refl refl) (no_more !))) (λ z ez iz.
         land ! (from ! (stop !)) (init ! 14 refl ((uint_Lawful 𝓛 w64).typed z _ iz).0) $
-        sets ! (bin ! (lit ! tt) (local-of ! 14 refl refl) tt) 10 refl refl (tt, tt) $
-        either_way ! (local-of ! 10 refl refl)
-        (λ t. sets ! (of_opd ! (local-of ! 14 refl refl)) 22 refl refl ((uint_Lawful 𝓛 w64).typed z _ iz).0 $
+        sets ! (bin ! (lit ! tt) (local_of ! 14 refl refl) tt) 10 refl refl (tt, tt) $
+        either_way ! (local_of ! 10 refl refl)
+        (λ t. sets ! (of_opd ! (local_of ! 14 refl refl)) 22 refl refl ((uint_Lawful 𝓛 w64).typed z _ iz).0 $
         returns_within ! Post refl (look ! 22 refl) $ free_all (Ends h) (holding _ ∷ holding _ ∷ holding _ ∷ holding _ ∷ holding _ ∷ none ∷ holding _ ∷ []) ! $ by ! (exits h z _ (refused_lent h card c z ez t) iz))
-        (λ no. let n = let-in card c z ez no in fsplit3 ! $ drop ! $
-        opens-station ! tt h b o (λ ih.
+        (λ no. let n = let_in_lem card c z ez no in fsplit3 ! $ drop ! $
+        opens_station ! tt h b o (λ ih.
         -- [the station's cell; the open borrow; obs; auth; _10; …; _0; …]: local i is at 24 - 2 · i
-        sets ! (un ! (local-of ! 18 refl refl) (record { fits = wide card c n })) 14 refl refl (tt, record { fits = wide card c n }) $
-        asks ! fm (Empty 𝓛 at_mem run) known-empty to-empty goes-empty RW.the_row (λ d. RW'.lowered d) (RW'.lowers).val_is (λ r. r ≡ empty_row) _ (lasts empty'.ended tt tt) (λ u. id⊢ 𝓤 _)
+        sets ! (un ! (local_of ! 18 refl refl) (record { fits = wide card c n })) 14 refl refl (tt, record { fits = wide card c n }) $
+        asks ! fm (Empty 𝓛 at_mem run) known-empty to_empty goes_empty RW.the_row (λ d. RW'.lowered d) (RW'.lowers).val_is (λ r. r ≡ empty_row) _ (lasts empty'.ended tt tt) (λ u. id⊢ 𝓤 _)
         (λ P. no_more !) (λ r er ir.
         land ! (from ! (stop !)) (init ! 10 refl (row_typed 𝓛 r ir)) $
-        sets ! (bin ! (local-of ! 14 refl refl) (lit ! tt) (record { fits = in_bytes_lem card c n })) 8 refl refl (tt, record { fits = in_bytes_lem card c n }) $
-        sets ! (addr-field ! 22 refl refl ST'.mir 0 refl) 6 refl refl (tt, tt) $
-        sets ! (bin ! (local-of ! 6 refl refl) (local-of ! 8 refl refl) tt) 4 refl refl (tt, tt) $
+        sets ! (bin ! (local_of ! 14 refl refl) (lit ! tt) (record { fits = in_bytes_lem card c n })) 8 refl refl (tt, record { fits = in_bytes_lem card c n }) $
+        sets ! (addr_field ! 22 refl refl ST'.mir 0 refl) 6 refl refl (tt, tt) $
+        sets ! (bin ! (local_of ! 6 refl refl) (local_of ! 8 refl refl) tt) 4 refl refl (tt, tt) $
         rewrite ! 4 (λ (z : ℕ). ‵ (fat full_share ty_ptr l₁₀ 0 (vptr b z))) (sym (place_is row_bytes (o + 0) c)) refl $
-        assigns ! (of_opd ! (local-of ! 10 refl refl)) (from ! (hop ! (look ! 4 refl) (stop !))) (store_in ! 0 (low-item ! RW.the_type RW'.lowers h.rows (rows_of h _ ih) c (served card c n) no_row (sub ! 0 refl (whole !))) (row_typed 𝓛 r ir)) $
+        assigns ! (of_opd ! (local_of ! 10 refl refl)) (from ! (hop ! (look ! 4 refl) (stop !))) (store_in ! 0 (low_item ! RW.the_type RW'.lowers h.rows (rows_of h _ ih) c (served card c n) no_row (sub ! 0 refl (whole !))) (row_typed 𝓛 r ir)) $
         rewrite ! 0 (λ (ws : List Val). ‵ (fat full_share ST'.mir b o (station_val (array_val ws) (BK'.lowered h.book) (SM'.lowered h.summary)))) (map_set RW'.lowered h.rows c r) refl $
-        closes-station ! tt (with_row h c r) (station_val (rows_val (set h.rows c r)) (BK'.lowered h.book) (SM'.lowered h.summary)) b o (row_put h c r ih ir) $
+        closes_station ! tt (with_row h c r) (station_val (rows_val (set h.rows c r)) (BK'.lowered h.book) (SM'.lowered h.summary)) b o (row_put h c r ih ir) $
         feq_i ! (List Val) (vptr b o ∷ []) (vptr b o ∷ []) refl $ fjoin3 ! $
         -- [the reference; its token; _10; …; _0; …]
         sets ! (of_opd ! (lit ! tt)) 22 refl refl (tt, record { fits = lit< tt }) $ returns ! (look ! 22 refl) $
@@ -166,13 +166,13 @@ module _ {M : Type 1} {𝓤 : Ura M} (𝓛 : Logic 𝓤) (at_mem : Memory → SP
 module _ {M : Type 1} {𝓤 : Ura M} (𝓛 : Logic 𝓤) (mem : Memory → SProp 𝓤) (run : Routine → Fun 𝓤) (𝓣 : Tables 𝓤 𝓛.H) (known-gate : Triple 𝓤 (𝓣.C #station·gate-number) (GateNumber 𝓛 mem run)) (known-empty : Triple 𝓤 (𝓣.C #channel·empty-row) (Empty 𝓛 mem run)) where
   open 𝓛 use {H}
 
-  lent-walks : Walks 𝓛 lent.ended stayed (WpFn 𝓤 H 𝓣.C 𝓣.Λ code.function) (lent.clauses 𝓛 mem run)
-  lent-walks = walked 𝓛 lent.ended stayed (lent.clauses 𝓛 mem run) (WpFn 𝓤 H 𝓣.C 𝓣.Λ code.function) (λ κs. (mut_vals, (uint_vals w8, (uint_vals w8, tt)))) (λ κs. (mut_Tells (named 0) κs.0 ST.the_row, (uint_Tells w8, (uint_Tells w8, tt))))
+  lent_walks : Walks 𝓛 lent.ended stayed (WpFn 𝓤 H 𝓣.C 𝓣.Λ code.function) (lent.clauses 𝓛 mem run)
+  lent_walks = walked 𝓛 lent.ended stayed (lent.clauses 𝓛 mem run) (WpFn 𝓤 H 𝓣.C 𝓣.Λ code.function) (λ κs. (mut_vals, (uint_vals w8, (uint_vals w8, tt)))) (λ κs. (mut_Tells (named 0) κs.0 ST.the_row, (uint_Tells w8, (uint_Tells w8, tt))))
       (λ κs qs bounds a _ are. via 𝓤 _ (fst∗ 𝓤 _ (emp 𝓤)) (walk 𝓛 mem run κs.0 qs.0 a.0.ref_ptr.0 a.0.ref_ptr.1 a.0.ghost_name a.0.now a.1.0 a.1.1.0 𝓣.C 𝓣.Λ (fm_of 𝓤 H 𝓛.laws 𝓣) known-gate known-empty are.1.0.1 are.1.1.0.1))
 
   lent_meets : Meets 𝓛 lent.signature (WpFn 𝓤 H 𝓣.C 𝓣.Λ code.function) (lent.spec 𝓛 mem run)
   lent_meets = walk_Meets 𝓛 lent.ended stayed (Goes-ref 𝓛 1 0 tt (plain (λ _. ST.the_row)), (Goes-dropped 𝓛 1 (plain (λ _. u8)) yes (λ κs x f. refl), (Goes-dropped 𝓛 1 (plain (λ _. u8)) yes (λ κs x f. refl), tt)))
-      (lent.clauses 𝓛 mem run) (WpFn 𝓤 H 𝓣.C 𝓣.Λ code.function) (WpFn-mono 𝓤 H 𝓛.laws 𝓣 code.function) lent-walks
+      (lent.clauses 𝓛 mem run) (WpFn 𝓤 H 𝓣.C 𝓣.Λ code.function) (WpFn-mono 𝓤 H 𝓛.laws 𝓣 code.function) lent_walks
 
 pub spineyarrow-reset-spec : {M : Type 1} → stated.statement M
 unfolding code.routine tables_of

@@ -47,7 +47,7 @@ use Rattle.station.specs.declared.Station.{Station}
 use Rattle.station.specs.contracts.Station as ST
 use Rattle.lent.specs.Lent.{OffersLent, ResetsLent}
 use Rattle.lent.proofs.Item.{either_way}
-use Rattle.lent.proofs.Walk.{free_all, local-of, sets, field-of}
+use Rattle.lent.proofs.Walk.{free_all, local_of, sets, field_of_lem}
 use Rattle.lent.proofs.Laws.{laws as lent-laws}
 use Rattle.lent.specs.contracts.spineyarrow_offer as offer'
 use Rattle.lent.proofs.spineyarrow_offer.Symbol as offer-def
@@ -60,7 +60,7 @@ use Rattle.lent.proofs.spineyarrow_reset.Met as reset-thm
 use Rattle.lent_blocks.specs.declared.asking.Asked.{Asked}
 use Rattle.lent_blocks.specs.Taking.{TakesLent}
 use Rattle.lent_blocks.specs.Asking.{symbols_at, Asks}
-use Rattle.lent_blocks.proofs.Told.{lent-offer, lent-reset, lent_none}
+use Rattle.lent_blocks.proofs.Told.{lent_offer, lent_reset, lent_none}
 use Rattle.lent_blocks.specs.contracts.asking.Asked as AS
 use Rattle.lent_blocks.proofs.asking.Asked.TheLaws as AS'
 use Rattle.lent_blocks.specs.contracts.asking.asked_at as asked'
@@ -109,18 +109,18 @@ module _ {M : Type 1} {𝓤 : Ura M} (𝓛 : Logic 𝓤) (at_mem : Memory → SP
   abbrev Token : Item 𝓤
   Token = ‵ (flft κ' q') ⊛ ‵ ftrue
 
-  abbrev ref-at : GName → Station → MutBor Station
-  ref-at δ st = record { ref_ptr = (b, o); ghost_name = δ; now = st }
+  abbrev ref_at_lem : GName → Station → MutBor Station
+  ref_at_lem δ st = record { ref_ptr = (b, o); ghost_name = δ; now = st }
 
   -- the station's reference at a lifetime, under a name, at a station
   abbrev Ref : Lft → GName → Station → Item 𝓤
-  Ref κ₁ δ st = ‵ ((MutRef (named 0) κ₁ ST.the_row).own_val (ref-at δ st) (vptr b o ∷ []))
+  Ref κ₁ δ st = ‵ ((MutRef (named 0) κ₁ ST.the_row).own_val (ref_at_lem δ st) (vptr b o ∷ []))
 
   abbrev Kept : Lft → GName → Item 𝓤
   Kept κ₁ δ = ‵ (LentAgain ST.the_row κ κ₁ q γ b o δ h)
 
   abbrev x : Bor Station × (ℕ × (Bor (List ℕ) × (ℕ × Unit {0})))
-  x = (ref-at γ h, (card, (s, (n, tt))))
+  x = (ref_at_lem γ h, (card, (s, (n, tt))))
 
   abbrev at : Vals field.signature (κ, (κ', tt))
   at = (vptr b o ∷ [], (vint w8 card ∷ [], (v ∷ [], (vint w64 n ∷ [], tt))))
@@ -139,19 +139,19 @@ module _ {M : Type 1} {𝓤 : Ura M} (𝓛 : Logic 𝓤) (at_mem : Memory → SP
       owned ! u64 (Is u64) (uint_Makes 𝓛 w64) r _ is $ done !
 
   -- what the callees ask
-  abbrev to-ask : (Ask 𝓛 at_mem run).Ghost
-  to-ask = (((κ', tt), (q', tt), tt, (s, (n, tt)), (v ∷ [], (vint w64 n ∷ [], tt))), tt)
+  abbrev to_ask : (Ask 𝓛 at_mem run).Ghost
+  to_ask = (((κ', tt), (q', tt), tt, (s, (n, tt)), (v ∷ [], (vint w64 n ∷ [], tt))), tt)
 
-  goes-ask : n < 2 ^ 64 → ent 𝓤 (⋆ 𝓛 (Token ∷ ‵ Own ∷ [])) ((Ask 𝓛 at_mem run).pre to-ask)
-  goes-ask gn =
+  goes_ask : n < 2 ^ 64 → ent 𝓤 (⋆ 𝓛 (Token ∷ ‵ Own ∷ [])) ((Ask 𝓛 at_mem run).pre to_ask)
+  goes_ask gn =
       qed 𝓛 (Token ∷ ‵ Own ∷ []) ∵ nothing ! $ owned ! usize (Is usize) (uint_Makes 𝓛 w64) n _ (refl, gn) $ fjoin ! $ move ! (2 ∷ 0 ∷ []) $ fjoin ! $
       move ! (1 ∷ 0 ∷ []) $ join ! $ frame ! $ done !
 
-  abbrev to-symbols : (Symbols 𝓛 at_mem run).Ghost
-  to-symbols = (((κ', tt), (q', tt), tt, (s, (n, tt)), (v ∷ [], (vint w64 n ∷ [], tt))), tt)
+  abbrev to_symbols : (Symbols 𝓛 at_mem run).Ghost
+  to_symbols = (((κ', tt), (q', tt), tt, (s, (n, tt)), (v ∷ [], (vint w64 n ∷ [], tt))), tt)
 
-  goes-symbols : n < 2 ^ 64 → n + 19 ≤ length s.now → ent 𝓤 (⋆ 𝓛 (Token ∷ ‵ Own ∷ [])) ((Symbols 𝓛 at_mem run).pre to-symbols)
-  goes-symbols gn w =
+  goes_symbols : n < 2 ^ 64 → n + 19 ≤ length s.now → ent 𝓤 (⋆ 𝓛 (Token ∷ ‵ Own ∷ [])) ((Symbols 𝓛 at_mem run).pre to_symbols)
+  goes_symbols gn w =
       qed 𝓛 (Token ∷ ‵ Own ∷ []) ∵ says ! w $ nothing ! $ owned ! usize (Is usize) (uint_Makes 𝓛 w64) n _ (refl, gn) $ fjoin ! $ move ! (2 ∷ 0 ∷ []) $ fjoin ! $
       move ! (1 ∷ 0 ∷ []) $ join ! $ done !
 
@@ -167,20 +167,20 @@ module _ {M : Type 1} {𝓤 : Ura M} (𝓛 : Logic 𝓤) (at_mem : Memory → SP
     told-fits = omega (arith, (LL.owed AS.the_type AS'.the_laws p _ ip).0.1)
 
     abbrev offers : GName → MutBor (List ℕ) → MutBor Station × (ℕ × (ℕ × (ℕ × (MutBor (List ℕ) × Unit {0}))))
-    offers δ y = (ref-at δ h, (card, (p.channel, (p.epoch, (y, tt)))))
+    offers δ y = (ref_at_lem δ h, (card, (p.channel, (p.epoch, (y, tt)))))
 
-    abbrev to-offer : Lft → GName → MutBor (List ℕ) → Val → (Offer 𝓛 at_mem run).Ghost
-    to-offer κ₁ δ y w = (((κ₁, (κ', tt)), (full_share, (q', tt)), tt, offers δ y, (vptr b o ∷ [], (vint w8 card ∷ [], (vint w8 p.channel ∷ [], (vint w32 p.epoch ∷ [], (w ∷ [], tt)))))), tt)
+    abbrev to_offer : Lft → GName → MutBor (List ℕ) → Val → (Offer 𝓛 at_mem run).Ghost
+    to_offer κ₁ δ y w = (((κ₁, (κ', tt)), (full_share, (q', tt)), tt, offers δ y, (vptr b o ∷ [], (vint w8 card ∷ [], (vint w8 p.channel ∷ [], (vint w32 p.epoch ∷ [], (w ∷ [], tt)))))), tt)
 
-    goes-offer : (κ₁ : Lft) (δ : GName) (y : Bor (List ℕ)) (w : Val)
-        → ent 𝓤 (⋆ 𝓛 ((‵ (flft κ₁ full_share) ⊛ Token) ∷ Ref κ₁ δ h ∷ ‵ ((ShrSlice (named 1) κ' u8).own_val y (w ∷ [])) ∷ [])) ((Offer 𝓛 at_mem run).pre (to-offer κ₁ δ y w))
-    goes-offer κ₁ δ y w =
+    goes_offer : (κ₁ : Lft) (δ : GName) (y : Bor (List ℕ)) (w : Val)
+        → ent 𝓤 (⋆ 𝓛 ((‵ (flft κ₁ full_share) ⊛ Token) ∷ Ref κ₁ δ h ∷ ‵ ((ShrSlice (named 1) κ' u8).own_val y (w ∷ [])) ∷ [])) ((Offer 𝓛 at_mem run).pre (to_offer κ₁ δ y w))
+    goes_offer κ₁ δ y w =
         qed 𝓛 ((‵ (flft κ₁ full_share) ⊛ Token) ∷ Ref κ₁ δ h ∷ ‵ ((ShrSlice (named 1) κ' u8).own_val y (w ∷ [])) ∷ []) ∵ nothing ! $ move ! (3 ∷ 0 ∷ []) $ fjoin ! $
         owned ! u32 (Is u32) (uint_Makes 𝓛 w32) p.epoch _ epoch_is $ fjoin ! $ owned ! u8 (Is u8) (uint_Makes 𝓛 w8) p.channel _ channel-is $ fjoin ! $
         owned ! u8 (Is u8) (uint_Makes 𝓛 w8) card _ (refl, gk) $ fjoin ! $ move ! (2 ∷ 0 ∷ []) $ fjoin ! $ move ! (1 ∷ 0 ∷ []) $ join ! $ frame ! $ done !
 
     abbrev resets : GName → MutBor Station × (ℕ × (ℕ × Unit {0}))
-    resets δ = (ref-at δ h, (card, (p.channel, tt)))
+    resets δ = (ref_at_lem δ h, (card, (p.channel, tt)))
 
     abbrev to-reset : Lft → GName → (Reset 𝓛 at_mem run).Ghost
     to-reset κ₁ δ = (((κ₁, tt), (full_share, tt), tt, resets δ, (vptr b o ∷ [], (vint w8 card ∷ [], (vint w8 p.channel ∷ [], tt)))), tt)
@@ -215,21 +215,21 @@ module _ {M : Type 1} {𝓤 : Ura M} (𝓛 : Logic 𝓤) (at_mem : Memory → SP
         move ! (29 ∷ []) $ fsplit ! $ move ! (1 ∷ []) $ fsplit ! $ drop ! $ fsplit ! $ move ! (1 ∷ []) $ drop ! $ move ! (30 ∷ []) $ split ! $ move ! (2 ∷ 1 ∷ 3 ∷ 0 ∷ []) $
         -- [what the slice owns; its token; the reference; its token; _13; …; _0; …]
         use1 𝓛 (‵ Own ⊛ ‵ Own) ((shr_slice_copy 𝓛 (named 1) κ' u8).twice s (v ∷ [])) $ split ! $ move ! (2 ∷ 0 ∷ []) $
-        use2 𝓛 (raw ((Ask 𝓛 at_mem run).pre to-ask)) (goes-ask gn) $
+        use2 𝓛 (raw ((Ask 𝓛 at_mem run).pre to_ask)) (goes_ask gn) $
         -- [what `asked_at` asks; what the slice owns; the reference; its token; _13; …; _0; …]: local i is at 30 - 2 · i
-        calls_at ! fm (Ask 𝓛 at_mem run) known-ask to-ask (and_then ! (local-of ! 24 refl refl) (and_then ! (local-of ! 22 refl refl) (no_more !))) (λ u.
+        calls_at ! fm (Ask 𝓛 at_mem run) known-ask to_ask (and_then ! (local_of ! 24 refl refl) (and_then ! (local_of ! 22 refl refl) (no_more !))) (λ u.
         use1 𝓛 (later (some (λ (p : Asked). (Token ⊛ ‵ ((AS.the_row).own_val p (u ∷ []))) ⊛ some (λ (zs : _). ‵ (lasts asked'.ended (κ', tt) (s, (n, tt)) zs) ⊛ raw (fact 𝓤 (Asks s.now n p)))))) (id⊢ 𝓤 _) $ await ! tt $ pick ! (λ p.
         split ! $ move ! (1 ∷ []) $ pick ! (λ zs. split ! $ drop ! $ heard ! (Asks s.now n p) (λ ep. split ! $ move ! (1 ∷ []) $
         facts ! AS.the_row (Is AS.the_row) (shows 𝓛 AS.the_row) p (u ∷ []) (λ iu. move ! (2 ∷ 3 ∷ []) $
         -- [the reference; its token; the slice's; what the slice owns; _13; …; _0; …]: local i is at 30 - 2 · i
         land ! (from ! (stop !)) (init ! 20 refl ((LL.lawful AS.the_type AS'.the_laws 𝓛).typed p _ iu).0) $
         rewrite ! 20 (λ (ws : List Val). ‵ (fat full_share AS'.mir l₅ 0 (only ws))) ((AS'.lowers).val_is p _ iu) refl $
-        sets ! (bin ! (field-of ! 20 refl refl 0 refl) (lit ! tt) tt) 18 refl refl (tt, tt) $
-        either_way ! (local-of ! 18 refl refl)
+        sets ! (bin ! (field_of_lem ! 20 refl refl 0 refl) (lit ! tt) tt) 18 refl refl (tt, tt) $
+        either_way ! (local_of ! 18 refl refl)
         (λ t. sets ! (addr ! (from ! (hop ! (look ! 28 refl) (stop !)))) 14 refl refl (tt, tt) $
         -- the string in its place; of the slice nothing is kept
-        move ! (2 ∷ 3 ∷ []) $ use2 𝓛 (raw ((Symbols 𝓛 at_mem run).pre to-symbols)) (goes-symbols gn (ep.whole (eqb→eq p.told 1 t))) $
-        calls_at ! fm (Symbols 𝓛 at_mem run) known-symbols to-symbols (and_then ! (local-of ! 23 refl refl) (and_then ! (local-of ! 21 refl refl) (no_more !))) (λ w.
+        move ! (2 ∷ 3 ∷ []) $ use2 𝓛 (raw ((Symbols 𝓛 at_mem run).pre to_symbols)) (goes_symbols gn (ep.whole (eqb→eq p.told 1 t))) $
+        calls_at ! fm (Symbols 𝓛 at_mem run) known-symbols to_symbols (and_then ! (local_of ! 23 refl refl) (and_then ! (local_of ! 21 refl refl) (no_more !))) (λ w.
         use1 𝓛 (later (some (λ (y : Bor (List ℕ)). (Token ⊛ ‵ ((ShrSlice (named 0) κ' u8).own_val y (w ∷ []))) ⊛ some (λ (zs : _). ‵ (lasts symbols'.ended (κ', tt) (s, (n, tt)) zs) ⊛ raw (fact 𝓤 (y.now ≡ symbols_at s.now n)))))) (id⊢ 𝓤 _) $ await ! tt $ pick ! (λ y.
         split ! $ move ! (1 ∷ []) $ pick ! (λ zs. split ! $ drop ! $ heard ! (y.now ≡ symbols_at s.now n) (λ ey. split ! $ move ! (1 ∷ []) $
         peeks ! (ShrSlice (named 0) κ' u8) (Is (ShrSlice (named 0) κ' u8)) (shows 𝓛 (ShrSlice (named 0) κ' u8)) y (w ∷ []) (λ iy.
@@ -238,8 +238,8 @@ module _ {M : Type 1} {𝓤 : Ura M} (𝓛 : Logic 𝓤) (at_mem : Memory → SP
         lft_new ! tt (λ ν. move ! (3 ∷ 4 ∷ []) $
         use2 𝓛 (later (some (λ (δ : GName). Ref (ν ∷ []) δ h ⊛ Kept (ν ∷ []) δ))) (lends_again 𝓛 ST.the_row (named 0) κ (ν ∷ []) q γ b o (named 0) h) $ await ! tt $ pick ! (λ δ. split ! $
         -- [the reference lent; what is kept of it; its token; what the string owns; the slice's token; _13; …]
-        move ! (2 ∷ 4 ∷ []) $ join ! $ move ! (0 ∷ 1 ∷ 3 ∷ []) $ use3 𝓛 (raw ((Offer 𝓛 at_mem run).pre (to-offer gk p (lowly p _ iu) (ν ∷ []) δ y w))) (goes-offer gk p (lowly p _ iu) (ν ∷ []) δ y w) $
-        calls_at ! fm (Offer 𝓛 at_mem run) known-offer (to-offer gk p (lowly p _ iu) (ν ∷ []) δ y w) (and_then ! (local-of ! 12 refl refl) (and_then ! (local-of ! 24 refl refl) (and_then ! (field-of ! 18 refl refl 1 refl) (and_then ! (field-of ! 18 refl refl 2 refl) (and_then ! (local-of ! 10 refl refl) (no_more !)))))) (λ k.
+        move ! (2 ∷ 4 ∷ []) $ join ! $ move ! (0 ∷ 1 ∷ 3 ∷ []) $ use3 𝓛 (raw ((Offer 𝓛 at_mem run).pre (to_offer gk p (lowly p _ iu) (ν ∷ []) δ y w))) (goes_offer gk p (lowly p _ iu) (ν ∷ []) δ y w) $
+        calls_at ! fm (Offer 𝓛 at_mem run) known-offer (to_offer gk p (lowly p _ iu) (ν ∷ []) δ y w) (and_then ! (local_of ! 12 refl refl) (and_then ! (local_of ! 24 refl refl) (and_then ! (field_of_lem ! 18 refl refl 1 refl) (and_then ! (field_of_lem ! 18 refl refl 2 refl) (and_then ! (local_of ! 10 refl refl) (no_more !)))))) (λ k.
         use1 𝓛 (later (some (λ (r : ℕ). ((‵ (flft (ν ∷ []) full_share) ⊛ Token) ⊛ ‵ (u64.own_val r (k ∷ []))) ⊛ some (λ (zs : Station × (Unit {0} × (Unit {0} × (Unit {0} × (Unit {0} × Unit {0}))))). ‵ (lasts offer'.ended (ν ∷ [], (κ', tt)) (offers gk p (lowly p _ iu) δ y) zs) ⊛ raw (fact 𝓤 (OffersLent h card p.channel p.epoch y.now zs.0 r)))))) (id⊢ 𝓤 _) $ await ! tt $ pick ! (λ r.
         split ! $ move ! (1 ∷ []) $ pick ! (λ zs. split ! $ move ! (1 ∷ []) $ heard ! (OffersLent h card p.channel p.epoch y.now zs.0 r) (λ g. fsplit ! $ move ! (2 ∷ []) $ split ! $ split ! $
         lft_end ! tt $ move ! (0 ∷ 5 ∷ 3 ∷ []) $ use3 𝓛 (later (Ref κ γ zs.0 ⊛ ‵ (flft κ q))) (comes_back 𝓛 ST.the_row (named 0) κ (ν ∷ []) q γ b o δ h zs.0) $ await ! tt $ split ! $
@@ -248,20 +248,20 @@ module _ {M : Type 1} {𝓤 : Ura M} (𝓛 : Logic 𝓤) (at_mem : Memory → SP
         -- local i is at 29 - 2 · i
         land ! (from ! (stop !)) (init ! 15 refl ((uint_Lawful 𝓛 w64).typed r _ ir).0) $
         rewrite ! 15 (λ (ws : List Val). ‵ (fat full_share (ty_int w64) l₇ 0 (only ws))) (uint_Tells w64 r _ ir) refl $
-        sets ! (bin ! (lit ! tt) (local-of ! 15 refl refl) (record { fits = small r (six g) })) 9 refl refl (tt, record { fits = small r (six g) }) $
-        sets ! (bin ! (lit ! tt) (local-of ! 9 refl refl) (record { fits = small₁ 1 r (lit< tt) (six g) })) 29 refl refl (tt, record { fits = small₁ 1 r (lit< tt) (six g) }) $
+        sets ! (bin ! (lit ! tt) (local_of ! 15 refl refl) (record { fits = small r (six g) })) 9 refl refl (tt, record { fits = small r (six g) }) $
+        sets ! (bin ! (lit ! tt) (local_of ! 9 refl refl) (record { fits = small₁ 1 r (lit< tt) (six g) })) 29 refl refl (tt, record { fits = small₁ 1 r (lit< tt) (six g) }) $
         returns_within ! Post refl (look ! 29 refl) $ free_all (Ends zs.0) (holding _ ∷ holding _ ∷ holding _ ∷ holding _ ∷ holding _ ∷ holding _ ∷ holding _ ∷ holding _ ∷ holding _ ∷ holding _ ∷ holding _ ∷ []) ! $
-        by ! (exits zs.0 (1 + 256 * r) _ (lent-offer ep t ey g) (refl, small₁ 1 r (lit< tt) (six g))))))))))))))))
+        by ! (exits zs.0 (1 + 256 * r) _ (lent_offer ep t ey g) (refl, small₁ 1 r (lit< tt) (six g))))))))))))))))
         (λ t. move ! (3 ∷ []) $ drop ! $
         -- [the reference; its token; the slice's; _13; …; _0; …]: local i is at 29 - 2 · i
-        assigns ! (bin ! (field-of ! 19 refl refl 0 refl) (lit ! tt) tt) (from ! (stop !)) (store ! 17 refl (tt, tt)) $
-        either_way ! (local-of ! 17 refl refl)
+        assigns ! (bin ! (field_of_lem ! 19 refl refl 0 refl) (lit ! tt) tt) (from ! (stop !)) (store ! 17 refl (tt, tt)) $
+        either_way ! (local_of ! 17 refl refl)
         (λ t₂. sets ! (addr ! (from ! (hop ! (look ! 27 refl) (stop !)))) 5 refl refl (tt, tt) $
         lft_new ! tt (λ ν. move ! (1 ∷ 2 ∷ []) $
         use2 𝓛 (later (some (λ (δ : GName). Ref (ν ∷ []) δ h ⊛ Kept (ν ∷ []) δ))) (lends_again 𝓛 ST.the_row (named 0) κ (ν ∷ []) q γ b o (named 0) h) $ await ! tt $ pick ! (λ δ. split ! $
         -- [the reference lent; what is kept of it; its token; the slice's; _13; …]
         move ! (0 ∷ 2 ∷ []) $ use2 𝓛 (raw ((Reset 𝓛 at_mem run).pre (to-reset gk p (lowly p _ iu) (ν ∷ []) δ))) (goes-reset gk p (lowly p _ iu) (ν ∷ []) δ) $
-        calls_at ! fm (Reset 𝓛 at_mem run) known-reset (to-reset gk p (lowly p _ iu) (ν ∷ []) δ) (and_then ! (local-of ! 5 refl refl) (and_then ! (local-of ! 25 refl refl) (and_then ! (field-of ! 19 refl refl 1 refl) (no_more !)))) (λ k.
+        calls_at ! fm (Reset 𝓛 at_mem run) known-reset (to-reset gk p (lowly p _ iu) (ν ∷ []) δ) (and_then ! (local_of ! 5 refl refl) (and_then ! (local_of ! 25 refl refl) (and_then ! (field_of_lem ! 19 refl refl 1 refl) (no_more !)))) (λ k.
         use1 𝓛 (later (some (λ (r : ℕ). ((‵ (flft (ν ∷ []) full_share) ⊛ ‵ ftrue) ⊛ ‵ (u64.own_val r (k ∷ []))) ⊛ some (λ (zs : Station × (Unit {0} × (Unit {0} × Unit {0}))). ‵ (lasts reset'.ended (ν ∷ [], tt) (resets gk p (lowly p _ iu) δ) zs) ⊛ raw (fact 𝓤 (ResetsLent h card p.channel zs.0 r)))))) (id⊢ 𝓤 _) $ await ! tt $ pick ! (λ r.
         split ! $ move ! (1 ∷ []) $ pick ! (λ zs. split ! $ move ! (1 ∷ []) $ heard ! (ResetsLent h card p.channel zs.0 r) (λ g. fsplit ! $ move ! (2 ∷ []) $ split ! $ split ! $
         lft_end ! tt $ move ! (0 ∷ 5 ∷ 3 ∷ []) $ use3 𝓛 (later (Ref κ γ zs.0 ⊛ ‵ (flft κ q))) (comes_back 𝓛 ST.the_row (named 0) κ (ν ∷ []) q γ b o δ h zs.0) $ await ! tt $ split ! $
@@ -269,32 +269,32 @@ module _ {M : Type 1} {𝓤 : Ura M} (𝓛 : Logic 𝓤) (at_mem : Memory → SP
         move ! (3 ∷ []) $ facts ! u64 (Is u64) (shows 𝓛 u64) r (k ∷ []) (λ ir. move ! (2 ∷ []) $ drop ! $ move ! (2 ∷ []) $ drop ! $
         land ! (from ! (stop !)) (init ! 7 refl ((uint_Lawful 𝓛 w64).typed r _ ir).0) $
         rewrite ! 7 (λ (ws : List Val). ‵ (fat full_share (ty_int w64) l₁₁ 0 (only ws))) (uint_Tells w64 r _ ir) refl $
-        sets ! (bin ! (lit ! tt) (local-of ! 7 refl refl) (record { fits = small r (five g) })) 3 refl refl (tt, record { fits = small r (five g) }) $
-        sets ! (bin ! (lit ! tt) (local-of ! 3 refl refl) (record { fits = small₁ 2 r (lit< tt) (five g) })) 29 refl refl (tt, record { fits = small₁ 2 r (lit< tt) (five g) }) $
+        sets ! (bin ! (lit ! tt) (local_of ! 7 refl refl) (record { fits = small r (five g) })) 3 refl refl (tt, record { fits = small r (five g) }) $
+        sets ! (bin ! (lit ! tt) (local_of ! 3 refl refl) (record { fits = small₁ 2 r (lit< tt) (five g) })) 29 refl refl (tt, record { fits = small₁ 2 r (lit< tt) (five g) }) $
         returns_within ! Post refl (look ! 29 refl) $ free_all (Ends zs.0) (holding _ ∷ holding _ ∷ holding _ ∷ holding _ ∷ holding _ ∷ holding _ ∷ holding _ ∷ none ∷ none ∷ none ∷ none ∷ holding _ ∷ holding _ ∷ holding _ ∷ []) ! $
-        by ! (exits zs.0 (2 + 256 * r) _ (lent-reset ep t₂ g) (refl, small₁ 2 r (lit< tt) (five g)))))))))))
-        (λ f. sets ! (un ! (field-of ! 19 refl refl 0 refl) (record { fits = told-fits gk p (lowly p _ iu) })) 29 refl refl (tt, record { fits = told-fits gk p (lowly p _ iu) }) $
+        by ! (exits zs.0 (2 + 256 * r) _ (lent_reset ep t₂ g) (refl, small₁ 2 r (lit< tt) (five g)))))))))))
+        (λ f. sets ! (un ! (field_of_lem ! 19 refl refl 0 refl) (record { fits = told-fits gk p (lowly p _ iu) })) 29 refl refl (tt, record { fits = told-fits gk p (lowly p _ iu) }) $
         returns ! (look ! 29 refl) $ free_all (Ends h) (holding _ ∷ holding _ ∷ holding _ ∷ holding _ ∷ holding _ ∷ holding _ ∷ holding _ ∷ []) ! $
         by ! (exits h p.told _ (lent_none ep t f) (refl, told-fits gk p (lowly p _ iu))))))))))))))))))))))))
 
 module _ {M : Type 1} {𝓤 : Ura M} (𝓛 : Logic 𝓤) (mem : Memory → SProp 𝓤) (run : Routine → Fun 𝓤) (𝓣 : Tables 𝓤 𝓛.H) (known-ask : Triple 𝓤 (𝓣.C #lent-blocks·asked-at) (Ask 𝓛 mem run)) (known-symbols : Triple 𝓤 (𝓣.C #lent-blocks·symbols-at) (Symbols 𝓛 mem run)) (known-offer : Triple 𝓤 (𝓣.C #lent·spineyarrow-offer) (Offer 𝓛 mem run)) (known-reset : Triple 𝓤 (𝓣.C #lent·spineyarrow-reset) (Reset 𝓛 mem run)) where
   open 𝓛 use {H}
 
-  field-walks : Walks 𝓛 field.ended stayed (WpFn 𝓤 H 𝓣.C 𝓣.Λ code.function) (field.clauses 𝓛 mem run)
-  field-walks = walked 𝓛 field.ended stayed (field.clauses 𝓛 mem run) (WpFn 𝓤 H 𝓣.C 𝓣.Λ code.function) (λ κs. (mut_vals, (uint_vals w8, (shr_slice_vals, (uint_vals w64, tt))))) (λ κs. (mut_Tells (named 0) κs.0 ST.the_row, (uint_Tells w8, (shr_slice_Tells (named 1) κs.1.0 u8, (uint_Tells w64, tt)))))
+  field_walks : Walks 𝓛 field.ended stayed (WpFn 𝓤 H 𝓣.C 𝓣.Λ code.function) (field.clauses 𝓛 mem run)
+  field_walks = walked 𝓛 field.ended stayed (field.clauses 𝓛 mem run) (WpFn 𝓤 H 𝓣.C 𝓣.Λ code.function) (λ κs. (mut_vals, (uint_vals w8, (shr_slice_vals, (uint_vals w64, tt))))) (λ κs. (mut_Tells (named 0) κs.0 ST.the_row, (uint_Tells w8, (shr_slice_Tells (named 1) κs.1.0 u8, (uint_Tells w64, tt)))))
       (λ κs qs bounds a _ are. via 𝓤 _ (fst∗ 𝓤 _ (emp 𝓤)) (walk 𝓛 mem run κs.0 κs.1.0 qs.0 qs.1.0 a.0.ref_ptr.0 a.0.ref_ptr.1 a.0.ghost_name a.0.now a.1.0 a.1.1.0 a.1.1.1.0 𝓣.C 𝓣.Λ (fm_of 𝓤 H 𝓛.laws 𝓣) known-ask known-symbols known-offer known-reset are.1.0.1 are.1.1.1.0.1 are.1.1.0))
 
-  field-meets : Meets 𝓛 field.signature (WpFn 𝓤 H 𝓣.C 𝓣.Λ code.function) (field.spec 𝓛 mem run)
-  field-meets = walk_Meets 𝓛 field.ended stayed
+  field_meets : Meets 𝓛 field.signature (WpFn 𝓤 H 𝓣.C 𝓣.Λ code.function) (field.spec 𝓛 mem run)
+  field_meets = walk_Meets 𝓛 field.ended stayed
       (Goes-ref 𝓛 2 0 tt (plain (λ _. ST.the_row)), (Goes-dropped 𝓛 2 (plain (λ _. u8)) yes (λ κs x f. refl), (Goes-dropped 𝓛 2 slice_slot yes (λ κs x f. refl), (Goes-dropped 𝓛 2 (plain (λ _. usize)) yes (λ κs x f. refl), tt))))
-      (field.clauses 𝓛 mem run) (WpFn 𝓤 H 𝓣.C 𝓣.Λ code.function) (WpFn-mono 𝓤 H 𝓛.laws 𝓣 code.function) field-walks
+      (field.clauses 𝓛 mem run) (WpFn 𝓤 H 𝓣.C 𝓣.Λ code.function) (WpFn-mono 𝓤 H 𝓛.laws 𝓣 code.function) field_walks
 
 pub spineyarrow-field-spec : {M : Type 1} → stated.statement M
 unfolding code.routine tables_of
 spineyarrow-field-spec 𝓤 𝓛 𝓜 𝓡 =
     entered 𝓤 𝓛.H (triple_of 𝓛 field.signature (field.spec 𝓛 𝓜.mem 𝓡.run))
     (tables 𝓤 𝓛.H 𝓜 𝓡 code.env).C (tables 𝓤 𝓛.H 𝓜 𝓡 code.env).Λ #lent-blocks·spineyarrow-field code.function (code.unfolded 𝓤 𝓛.H 𝓜 𝓡)
-    (field-meets 𝓛 𝓜.mem 𝓡.run (tables_of 𝓤 𝓛.H 𝓜 (tables 𝓤 𝓛.H 𝓜 𝓡 code.env))
+    (field_meets 𝓛 𝓜.mem 𝓡.run (tables_of 𝓤 𝓛.H 𝓜 (tables 𝓤 𝓛.H 𝓜 𝓡 code.env))
     (cited 𝓤 𝓛.H (Ask 𝓛 𝓜.mem 𝓡.run) 𝓜 𝓡 code.env #lent-blocks·asked-at asked-def.routine code.calls-lent-blocks::asking::asked_at (asked-thm.met 𝓤 𝓛 𝓜 𝓡))
     (cited 𝓤 𝓛.H (Symbols 𝓛 𝓜.mem 𝓡.run) 𝓜 𝓡 code.env #lent-blocks·symbols-at symbols-def.routine code.calls-lent-blocks::asking::symbols-at (symbols-thm.met 𝓤 𝓛 𝓜 𝓡))
     (cited 𝓤 𝓛.H (Offer 𝓛 𝓜.mem 𝓡.run) 𝓜 𝓡 code.env #lent·spineyarrow-offer offer-def.routine code.calls-lent::spineyarrow-offer (offer-thm.met 𝓤 𝓛 𝓜 𝓡))

@@ -9,7 +9,7 @@ use mir.Syntax.{w32}
 use mir.Val.{SFits, to_z, of_z, hbits}
 use mir.Facts.{to_z-of_z}
 use Rattle.shows.proofs.Shows.{is_so, is_not}
-use Rattle.lent_navigation.proofs.Told.{put-missing, put_written, row_read}
+use Rattle.lent_navigation.proofs.Told.{put_missing, put_written, row_read}
 use Rattle.lent_navigation.proofs.telling.put_navigation.Statement.{statement}
 use Rattle.lent_navigation.proofs.telling.put_navigation.Tie as tie
 
@@ -21,14 +21,14 @@ has-five-requires : tie.Need-has-five-requires
 has-five-requires c κs = search rules
 
 returns : tie.Need-returns
-returns c = let h = c.before in let a = h.before.before.args in put-missing a.row a.e a.out.now (rw (is_not h.has-five.ensures c.if1.true))
+returns c = let h = c.before in let a = h.before.before.args in put_missing a.row a.e a.out.now (rw (is_not h.has-five.ensures c.if1.true))
 
 returns-2 : tie.Need-returns-2
 returns-2 c =
     let f = c.before.before in
     let h = f.before in
     let a = h.before.before.args in
-    put-missing a.row a.e a.out.now (rw (is_so h.has-five.ensures f.if1.false, eq-eqb a.e.day 0 c.if2.true))
+    put_missing a.row a.e a.out.now (rw (is_so h.has-five.ensures f.if1.false, eq-eqb a.e.day 0 c.if2.true))
 
 immediate-words-requires : tie.Need-immediate-words-requires
 immediate-words-requires c κs = search rules

@@ -53,10 +53,10 @@ use Rattle.station.proofs.gate_number.Symbol as gate-def
 use Rattle.station.proofs.gate_number.Symbol.{name as #gate-number}
 use Rattle.station.proofs.gate_number.Met as gate-thm
 use Rattle.lent.proofs.Borrowed.{ref_at, lent_at, unspent, unspent_ref}
-use Rattle.lent.proofs.Gate.{let-in, served, wide, GateNumber, to-gate, goes-gate}
+use Rattle.lent.proofs.Gate.{let_in_lem, served, wide, GateNumber, to_gate, goes_gate}
 use Rattle.lent.proofs.Item.{either_way}
 use Rattle.lent.proofs.Parts.{row_typed}
-use Rattle.lent.proofs.Walk.{free_all, local-of, sets, asks, addr-of, field-of, asks-with}
+use Rattle.lent.proofs.Walk.{free_all, local_of, sets, asks, KIT addr_of, field_of_lem, asks_with}
 use Rattle.words.specs.Immediate.{immediate_of}
 use Rattle.lent_queries.specs.Lent.{words_list, kept_tests, PutsRecord, TellsRecord}
 use Rattle.lent_queries.proofs.Said.{stopped, let_through}
@@ -152,8 +152,8 @@ module _ {M : Type 1} {𝓤 : Ura M} (𝓛 : Logic 𝓤) (mem : Memory → SProp
       says ! g $ move ! (2 ∷ []) $ split ! $ move ! (0 ∷ 4 ∷ []) $ join ! $ frame ! $ move ! (2 ∷ 0 ∷ []) $ fjoin ! $ move ! (1 ∷ 0 ∷ []) $ fjoin ! $ nothing ! $ fjoin ! $ nothing ! $ fjoin ! $ nothing ! $ fjoin ! $ frame ! $
       owned ! u64 (Is u64) (uint_Makes 𝓛 w64) r _ ir $ done !
 
-  shut-exits : (z : ℕ) → TellsRecord h card c y.now w.now y.now w.now z → Is u64 z (vint w64 z ∷ []) → ent 𝓤 (⋆ 𝓛 (Token ∷ Ref ∷ Token' ∷ Out ∷ [])) (Post (vint w64 z))
-  shut-exits z g iz =
+  shut_exits : (z : ℕ) → TellsRecord h card c y.now w.now y.now w.now z → Is u64 z (vint w64 z ∷ []) → ent 𝓤 (⋆ 𝓛 (Token ∷ Ref ∷ Token' ∷ Out ∷ [])) (Post (vint w64 z))
+  shut_exits z g iz =
       qed 𝓛 (Token ∷ Ref ∷ Token' ∷ Out ∷ []) ∵ move ! (1 ∷ []) $ drop ! $ move ! (2 ∷ []) $ split ! $ move ! (1 ∷ []) $
       use1 𝓛 (‵ (Said w.now)) (unspent_ref 𝓛 (named 2) κ'' u32 w (u ∷ [])) $ move ! (1 ∷ []) $
       use1 𝓛 (‵ (finally i32 y.ghost_name y.now)) (unspent 𝓛 (named 1) κ' i32 y (v ∷ [])) $ by ! (exits y.now w.now z refl g iz)
@@ -162,16 +162,16 @@ module _ {M : Type 1} {𝓤 : Ura M} (𝓛 : Logic 𝓤) (mem : Memory → SProp
   abbrev to_part : (Part 𝓛 mem run).Ghost
   to_part = (((κ, tt), (q, tt), tt, (ref_at b o γ h, (c, tt)), (vptr b o ∷ [], (vint w64 c ∷ [], tt))), tt)
 
-  goes-part : is_served card c ≡ true → ent 𝓤 (⋆ 𝓛 (Token ∷ Ref ∷ [])) ((Part 𝓛 mem run).pre to_part)
-  goes-part n =
+  goes_part : is_served card c ≡ true → ent 𝓤 (⋆ 𝓛 (Token ∷ Ref ∷ [])) ((Part 𝓛 mem run).pre to_part)
+  goes_part n =
       qed 𝓛 (Token ∷ Ref ∷ []) ∵ says ! (served card c n) $ nothing ! $ owned ! usize (Is usize) (uint_Makes 𝓛 w64) c _ (refl, wide card c n) $ fjoin ! $ move ! (2 ∷ 0 ∷ []) $ fjoin ! $
       move ! (1 ∷ 0 ∷ []) $ join ! $ done !
 
-  abbrev to-put : Row → (Put 𝓛 mem run).Ghost
-  to-put s = (((κ', (κ'', tt)), (q', (q'', tt)), tt, (s, (y, (w, tt))), (RW'.lowered s ∷ [], (v ∷ [], (u ∷ [], tt)))), tt)
+  abbrev to_put : Row → (Put 𝓛 mem run).Ghost
+  to_put s = (((κ', (κ'', tt)), (q', (q'', tt)), tt, (s, (y, (w, tt))), (RW'.lowered s ∷ [], (v ∷ [], (u ∷ [], tt)))), tt)
 
-  goes-put : (s : Row) → Is RW.the_row s (RW'.lowered s ∷ []) → ent 𝓤 (⋆ 𝓛 (Token' ∷ Out ∷ [])) ((Put 𝓛 mem run).pre (to-put s))
-  goes-put s is =
+  goes_put : (s : Row) → Is RW.the_row s (RW'.lowered s ∷ []) → ent 𝓤 (⋆ 𝓛 (Token' ∷ Out ∷ [])) ((Put 𝓛 mem run).pre (to_put s))
+  goes_put s is =
       qed 𝓛 (Token' ∷ Out ∷ []) ∵ move ! (1 ∷ []) $ split ! $ nothing ! $ move ! (2 ∷ 0 ∷ []) $ fjoin ! $ move ! (1 ∷ 0 ∷ []) $ fjoin ! $
       owned ! RW.the_row (Is RW.the_row) (LL.makes RW.the_type RW'.the_plain 𝓛) s _ is $ fjoin ! $ move ! (1 ∷ 0 ∷ []) $ join ! $ frame ! $ done !
 
@@ -182,8 +182,8 @@ module _ {M : Type 1} {𝓤 : Ura M} (𝓛 : Logic 𝓤) (mem : Memory → SProp
   abbrev Last : Row → Lasts → Fml
   Last s = lasts put'.ended (κ', (κ'', tt)) (s, (y, (w, tt)))
 
-  open-exits : (s : Row) (zs : Lasts) (r : ℕ) → TellsRecord h card c y.now w.now zs.1.0 zs.1.1.0 r → Is u64 r (vint w64 r ∷ []) → ent 𝓤 (⋆ 𝓛 (Token' ∷ ‵ (Last s zs) ∷ Token ∷ [])) (Post (vint w64 r))
-  open-exits s zs r g ir =
+  open_exits : (s : Row) (zs : Lasts) (r : ℕ) → TellsRecord h card c y.now w.now zs.1.0 zs.1.1.0 r → Is u64 r (vint w64 r ∷ []) → ent 𝓤 (⋆ 𝓛 (Token' ∷ ‵ (Last s zs) ∷ Token ∷ [])) (Post (vint w64 r))
+  open_exits s zs r g ir =
       qed 𝓛 (Token' ∷ ‵ (Last s zs) ∷ Token ∷ []) ∵ move ! (1 ∷ []) $ fsplit ! $ drop ! $ fsplit ! $ fsplit ! $ move ! (1 ∷ []) $ feq_l ! (λ l.
       -- [the last list; what is said of the start, and true; the outputs' tokens; the station's]
       move ! (1 ∷ []) $ fsplit ! $ move ! (1 ∷ []) $ drop ! $ move ! (1 ∷ 0 ∷ 3 ∷ []) $ by ! (exits zs.1.0 zs.1.1.0 r l g ir))
@@ -196,48 +196,48 @@ module _ {M : Type 1} {𝓤 : Ura M} (𝓛 : Logic 𝓤) (mem : Memory → SProp
         pass1 ! (init ! 22 refl (tt, tt)) $ pass1 ! (init ! 20 refl (tt, record { fits = gk })) $ pass1 ! (init ! 18 refl (tt, record { fits = gc })) $ pass1 ! (init ! 16 refl (tt, (tt, (record { fits = g.0 }, tt)))) $ pass1 ! (init ! 14 refl (tt, tt)) $ pass0 ! $
         move ! (27 ∷ []) $ fsplit ! $ move ! (1 ∷ []) $ fsplit ! $ drop ! $ fsplit ! $ drop ! $ fsplit ! $ move ! (1 ∷ []) $ fsplit ! $ move ! (1 ∷ []) $ drop ! $ move ! (29 ∷ []) $ split ! $ nothing ! $ move ! (1 ∷ 0 ∷ []) $ join ! $ move ! (3 ∷ 2 ∷ []) $ join ! $ move ! (1 ∷ 3 ∷ 2 ∷ []) $
         -- [the station's token; its reference; the outputs' tokens; the outputs; _12; …; _0; …]: local i is at 28 - 2 · i
-        asks ! fm (GateNumber 𝓛 mem run) known-gate (to-gate 𝓛 mem run card c) (goes-gate 𝓛 mem run card c gk gc) u64 (vint w64) (uint_Tells w64) (λ r. r ≡ first_of (gate_tests card c)) _ (lasts gate'.ended tt (card, (c, tt))) (λ u. id⊢ 𝓤 _)
-        (λ P. and_then ! (local-of ! 25 refl refl) (and_then ! (local-of ! 23 refl refl) (no_more !))) (λ z ez iz.
+        asks ! fm (GateNumber 𝓛 mem run) known-gate (to_gate 𝓛 mem run card c) (goes_gate 𝓛 mem run card c gk gc) u64 (vint w64) (uint_Tells w64) (λ r. r ≡ first_of (gate_tests card c)) _ (lasts gate'.ended tt (card, (c, tt))) (λ u. id⊢ 𝓤 _)
+        (λ P. and_then ! (local_of ! 25 refl refl) (and_then ! (local_of ! 23 refl refl) (no_more !))) (λ z ez iz.
         land ! (from ! (stop !)) (init ! 16 refl ((uint_Lawful 𝓛 w64).typed z _ iz).0) $
-        sets ! (bin ! (lit ! tt) (local-of ! 16 refl refl) tt) 14 refl refl (tt, tt) $
-        either_way ! (local-of ! 14 refl refl)
-        (λ t. sets ! (of_opd ! (local-of ! 16 refl refl)) 28 refl refl ((uint_Lawful 𝓛 w64).typed z _ iz).0 $
+        sets ! (bin ! (lit ! tt) (local_of ! 16 refl refl) tt) 14 refl refl (tt, tt) $
+        either_way ! (local_of ! 14 refl refl)
+        (λ t. sets ! (of_opd ! (local_of ! 16 refl refl)) 28 refl refl ((uint_Lawful 𝓛 w64).typed z _ iz).0 $
         returns_within ! Post refl (look ! 28 refl) $ free_all (Token ∷ Ref ∷ Token' ∷ Out ∷ []) (holding _ ∷ holding _ ∷ holding _ ∷ holding _ ∷ holding _ ∷ holding _ ∷ holding _ ∷ holding _ ∷ []) ! $
-        by ! (shut-exits z (shut_tells h card c y.now w.now z ez t) iz))
-        (λ no. let n = let-in card c z ez no in
-        sets ! (un ! (local-of ! 22 refl refl) (record { fits = wide card c n })) 10 refl refl (tt, record { fits = wide card c n }) $
-        asks-with ! fm (Part 𝓛 mem run) known-part to_part Token Ref (goes-part n) RW.the_row RW'.lowered (RW'.lowers).val_is _ (λ s zs. s ≡ row_at h c) (lasts part'.ended (κ, tt) (ref_at b o γ h, (c, tt))) (λ u. id⊢ 𝓤 _)
-        (λ S. and_then ! (local-of ! 25 refl refl) (and_then ! (local-of ! 9 refl refl) (no_more !))) (λ s zs es is. move ! (1 ∷ []) $ drop ! $
+        by ! (shut_exits z (shut_tells h card c y.now w.now z ez t) iz))
+        (λ no. let n = let_in_lem card c z ez no in
+        sets ! (un ! (local_of ! 22 refl refl) (record { fits = wide card c n })) 10 refl refl (tt, record { fits = wide card c n }) $
+        asks_with ! fm (Part 𝓛 mem run) known-part to_part Token Ref (goes_part n) RW.the_row RW'.lowered (RW'.lowers).val_is _ (λ s zs. s ≡ row_at h c) (lasts part'.ended (κ, tt) (ref_at b o γ h, (c, tt))) (λ u. id⊢ 𝓤 _)
+        (λ S. and_then ! (local_of ! 25 refl refl) (and_then ! (local_of ! 9 refl refl) (no_more !))) (λ s zs es is. move ! (1 ∷ []) $ drop ! $
         -- [the station's token; the outputs'; the outputs; _12; …; _0; …]: local i is at 27 - 2 · i
         land ! (from ! (stop !)) (init ! 11 refl (row_typed 𝓛 s is)) $
         sets ! (addr ! (from ! (fld ! refl (hop ! (look_in ! 19 (sub ! 0 refl (whole !))) (stop !))))) 7 refl refl (tt, tt) $
-        sets ! (agg ! (and_then ! (local-of ! 7 refl refl) (and_then ! (field-of ! 19 refl refl 1 refl) (no_more !)))) 5 refl refl (tt, (tt, (record { fits = g.0 }, tt))) $
-        sets ! (addr-of ! 17 refl refl) 3 refl refl (tt, tt) $
+        sets ! (agg ! (and_then ! (local_of ! 7 refl refl) (and_then ! (field_of_lem ! 19 refl refl 1 refl) (no_more !)))) 5 refl refl (tt, (tt, (record { fits = g.0 }, tt))) $
+        sets ! (KIT addr_of ! 17 refl refl) 3 refl refl (tt, tt) $
         move ! (1 ∷ 2 ∷ []) $
-        asks-with ! fm (Put 𝓛 mem run) known-put (to-put s) Token' Out (goes-put s is) u64 (vint w64) (uint_Tells w64) Lasts (λ r ws. PutsRecord s.immediate y.now w.now ws.1.0 ws.1.1.0 r) (Last s) (λ u. id⊢ 𝓤 _)
-        (λ S. and_then ! (local-of ! 10 refl refl) (and_then ! (local-of ! 4 refl refl) (and_then ! (local-of ! 2 refl refl) (no_more !)))) (λ r ws eg ir.
+        asks_with ! fm (Put 𝓛 mem run) known-put (to_put s) Token' Out (goes_put s is) u64 (vint w64) (uint_Tells w64) Lasts (λ r ws. PutsRecord s.immediate y.now w.now ws.1.0 ws.1.1.0 r) (Last s) (λ u. id⊢ 𝓤 _)
+        (λ S. and_then ! (local_of ! 10 refl refl) (and_then ! (local_of ! 4 refl refl) (and_then ! (local_of ! 2 refl refl) (no_more !)))) (λ r ws eg ir.
         -- [the outputs' tokens; their last values; the station's token; _12; …; _0; …]: local i is at 27 - 2 · i
         land ! (from ! (stop !)) (init ! 27 refl ((uint_Lawful 𝓛 w64).typed r _ ir).0) $
         returns ! (look ! 27 refl) $ free_all (Token' ∷ ‵ (Last s ws) ∷ Token ∷ []) (holding _ ∷ holding _ ∷ holding _ ∷ holding _ ∷ holding _ ∷ holding _ ∷ holding _ ∷ holding _ ∷ holding _ ∷ holding _ ∷ holding _ ∷ holding _ ∷ holding _ ∷ []) ! $
-        by ! (open-exits s ws r (open_tells h card c y.now w.now ws.1.0 ws.1.1.0 z r s ez no es eg) ir))))))))))))))))))
+        by ! (open_exits s ws r (open_tells h card c y.now w.now ws.1.0 ws.1.1.0 z r s ez no es eg) ir))))))))))))))))))
 
 module _ {M : Type 1} {𝓤 : Ura M} (𝓛 : Logic 𝓤) (mem : Memory → SProp 𝓤) (run : Routine → Fun 𝓤) (𝓣 : Tables 𝓤 𝓛.H) (known-gate : Triple 𝓤 (𝓣.C #gate-number) (GateNumber 𝓛 mem run)) (known-part : Triple 𝓤 (𝓣.C #row-in) (Part 𝓛 mem run)) (known-put : Triple 𝓤 (𝓣.C #put-record) (Put 𝓛 mem run)) where
   open 𝓛 use {H}
 
-  ask-walks : Walks 𝓛 ask.ended stayed (WpFn 𝓤 H 𝓣.C 𝓣.Λ code.function) (ask.clauses 𝓛 mem run)
-  ask-walks = walked 𝓛 ask.ended stayed (ask.clauses 𝓛 mem run) (WpFn 𝓤 H 𝓣.C 𝓣.Λ code.function) (λ κs. (shr_vals, (uint_vals w8, (uint_vals w8, (mut_slice_vals, (mut_vals, tt)))))) (λ κs. (shr_Tells (named 0) κs.0 ST.the_row, (uint_Tells w8, (uint_Tells w8, (mut_slice_Tells (named 1) κs.1.0 i32, (mut_Tells (named 2) κs.1.1.0 u32, tt))))))
+  ask_walks : Walks 𝓛 ask.ended stayed (WpFn 𝓤 H 𝓣.C 𝓣.Λ code.function) (ask.clauses 𝓛 mem run)
+  ask_walks = walked 𝓛 ask.ended stayed (ask.clauses 𝓛 mem run) (WpFn 𝓤 H 𝓣.C 𝓣.Λ code.function) (λ κs. (shr_vals, (uint_vals w8, (uint_vals w8, (mut_slice_vals, (mut_vals, tt)))))) (λ κs. (shr_Tells (named 0) κs.0 ST.the_row, (uint_Tells w8, (uint_Tells w8, (mut_slice_Tells (named 1) κs.1.0 i32, (mut_Tells (named 2) κs.1.1.0 u32, tt))))))
       (λ κs qs bounds a _ are. via 𝓤 _ (fst∗ 𝓤 _ (emp 𝓤)) (walk 𝓛 mem run κs.0 κs.1.0 κs.1.1.0 qs.0 qs.1.0 qs.1.1.0 a.0.ref_ptr.0 a.0.ref_ptr.1 a.0.ghost_name a.0.now a.1.0 a.1.1.0 a.1.1.1.0 a.1.1.1.1.0 𝓣.C 𝓣.Λ (fm_of 𝓤 H 𝓛.laws 𝓣) known-gate known-part known-put are.1.0.1 are.1.1.0.1 are.1.1.1.0.0.1))
 
-  ask-meets : Meets 𝓛 ask.signature (WpFn 𝓤 H 𝓣.C 𝓣.Λ code.function) (ask.spec 𝓛 mem run)
-  ask-meets = walk_Meets 𝓛 ask.ended stayed (Goes-dropped 𝓛 3 st_slot yes (λ κs x f. refl), (Goes-dropped 𝓛 3 (plain (λ _. u8)) yes (λ κs x f. refl), (Goes-dropped 𝓛 3 (plain (λ _. u8)) yes (λ κs x f. refl), (Goes-gave_slice 𝓛 3 1 tt (plain (λ _. i32)), (Goes-gave_ref 𝓛 3 2 tt (plain (λ _. u32)), tt)))))
-      (ask.clauses 𝓛 mem run) (WpFn 𝓤 H 𝓣.C 𝓣.Λ code.function) (WpFn-mono 𝓤 H 𝓛.laws 𝓣 code.function) ask-walks
+  ask_meets : Meets 𝓛 ask.signature (WpFn 𝓤 H 𝓣.C 𝓣.Λ code.function) (ask.spec 𝓛 mem run)
+  ask_meets = walk_Meets 𝓛 ask.ended stayed (Goes-dropped 𝓛 3 st_slot yes (λ κs x f. refl), (Goes-dropped 𝓛 3 (plain (λ _. u8)) yes (λ κs x f. refl), (Goes-dropped 𝓛 3 (plain (λ _. u8)) yes (λ κs x f. refl), (Goes-gave_slice 𝓛 3 1 tt (plain (λ _. i32)), (Goes-gave_ref 𝓛 3 2 tt (plain (λ _. u32)), tt)))))
+      (ask.clauses 𝓛 mem run) (WpFn 𝓤 H 𝓣.C 𝓣.Λ code.function) (WpFn-mono 𝓤 H 𝓛.laws 𝓣 code.function) ask_walks
 
 pub spineyarrow-record-spec : {M : Type 1} → stated.statement M
 unfolding code.routine tables_of
 spineyarrow-record-spec 𝓤 𝓛 𝓜 𝓡 =
     entered 𝓤 𝓛.H (triple_of 𝓛 ask.signature (ask.spec 𝓛 𝓜.mem 𝓡.run))
     (tables 𝓤 𝓛.H 𝓜 𝓡 code.env).C (tables 𝓤 𝓛.H 𝓜 𝓡 code.env).Λ #spineyarrow-record code.function (code.unfolded 𝓤 𝓛.H 𝓜 𝓡)
-    (ask-meets 𝓛 𝓜.mem 𝓡.run (tables_of 𝓤 𝓛.H 𝓜 (tables 𝓤 𝓛.H 𝓜 𝓡 code.env))
+    (ask_meets 𝓛 𝓜.mem 𝓡.run (tables_of 𝓤 𝓛.H 𝓜 (tables 𝓤 𝓛.H 𝓜 𝓡 code.env))
     (cited 𝓤 𝓛.H (GateNumber 𝓛 𝓜.mem 𝓡.run) 𝓜 𝓡 code.env #gate-number gate-def.routine code.calls-station::gate-number (gate-thm.met 𝓤 𝓛 𝓜 𝓡))
     (cited 𝓤 𝓛.H (Part 𝓛 𝓜.mem 𝓡.run) 𝓜 𝓡 code.env #row-in part-def.routine code.calls-lent-queries::copying::row-in (part-thm.met 𝓤 𝓛 𝓜 𝓡))
     (cited 𝓤 𝓛.H (Put 𝓛 𝓜.mem 𝓡.run) 𝓜 𝓡 code.env #put-record put-def.routine code.calls-lent-queries::telling::put-record (put-thm.met 𝓤 𝓛 𝓜 𝓡)))

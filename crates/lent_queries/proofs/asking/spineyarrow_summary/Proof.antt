@@ -49,8 +49,8 @@ use Rattle.station.specs.Queries.{summary_numbers}
 use Rattle.station.specs.contracts.Station as ST
 use Rattle.lent.proofs.Borrowed.{ref_at, lent_at, unspent}
 use Rattle.lent.proofs.Item.{either_way}
-use Rattle.lent.proofs.Parts.{summary-typed}
-use Rattle.lent.proofs.Walk.{free_all, local-of, sets, asks, asks-with, field-of}
+use Rattle.lent.proofs.Parts.{summary_typed}
+use Rattle.lent.proofs.Walk.{free_all, local_of, sets, asks, asks_with, field_of_lem}
 use Rattle.lent_queries.specs.Lent.{room_test, PutsOut, TellsSummary}
 use Rattle.lent_queries.proofs.Said.{stopped, let_through}
 use Rattle.lent_queries.specs.contracts.telling.card_number as card'
@@ -131,29 +131,29 @@ module _ {M : Type 1} {𝓤 : Ura M} (𝓛 : Logic 𝓤) (mem : Memory → SProp
       says ! g $ move ! (1 ∷ []) $ split ! $ move ! (0 ∷ 3 ∷ []) $ join ! $ frame ! $ move ! (1 ∷ 0 ∷ []) $ fjoin ! $ nothing ! $ fjoin ! $ nothing ! $ fjoin ! $ frame ! $
       owned ! u64 (Is u64) (uint_Makes 𝓛 w64) r _ ir $ done !
 
-  shut-exits : (z : ℕ) → TellsSummary h card y.now y.now z → Is u64 z (vint w64 z ∷ []) → ent 𝓤 (⋆ 𝓛 (Token ∷ Ref ∷ Token' ∷ Out ∷ [])) (Post (vint w64 z))
-  shut-exits z g iz =
+  shut_exits : (z : ℕ) → TellsSummary h card y.now y.now z → Is u64 z (vint w64 z ∷ []) → ent 𝓤 (⋆ 𝓛 (Token ∷ Ref ∷ Token' ∷ Out ∷ [])) (Post (vint w64 z))
+  shut_exits z g iz =
       qed 𝓛 (Token ∷ Ref ∷ Token' ∷ Out ∷ []) ∵ move ! (1 ∷ []) $ drop ! $ move ! (2 ∷ []) $
       use1 𝓛 (‵ (finally u64 y.ghost_name y.now)) (unspent 𝓛 (named 1) κ' u64 y (v ∷ [])) $ by ! (exits y.now z refl g iz)
 
   -- what the callees ask
-  abbrev to-gate : (Gate 𝓛 mem run).Ghost
-  to-gate = ((tt, tt, tt, (card, tt), (vint w8 card ∷ [], tt)), tt)
+  abbrev to_gate : (Gate 𝓛 mem run).Ghost
+  to_gate = ((tt, tt, tt, (card, tt), (vint w8 card ∷ [], tt)), tt)
 
-  goes-gate : card < 2 ^ 8 → ent 𝓤 (emp 𝓤) ((Gate 𝓛 mem run).pre to-gate)
-  goes-gate gk = qed 𝓛 [] ∵ nothing ! $ owned ! u8 (Is u8) (uint_Makes 𝓛 w8) card _ (refl, gk) $ fjoin ! $ nothing ! $ join ! $ frame ! $ done !
+  goes_gate : card < 2 ^ 8 → ent 𝓤 (emp 𝓤) ((Gate 𝓛 mem run).pre to_gate)
+  goes_gate gk = qed 𝓛 [] ∵ nothing ! $ owned ! u8 (Is u8) (uint_Makes 𝓛 w8) card _ (refl, gk) $ fjoin ! $ nothing ! $ join ! $ frame ! $ done !
 
   abbrev to_part : (Part 𝓛 mem run).Ghost
   to_part = (((κ, tt), (q, tt), tt, (ref_at b o γ h, tt), (vptr b o ∷ [], tt)), tt)
 
-  goes-part : ent 𝓤 (⋆ 𝓛 (Token ∷ Ref ∷ [])) ((Part 𝓛 mem run).pre to_part)
-  goes-part = qed 𝓛 (Token ∷ Ref ∷ []) ∵ nothing ! $ move ! (2 ∷ 0 ∷ []) $ fjoin ! $ move ! (1 ∷ 0 ∷ []) $ join ! $ frame ! $ done !
+  goes_part : ent 𝓤 (⋆ 𝓛 (Token ∷ Ref ∷ [])) ((Part 𝓛 mem run).pre to_part)
+  goes_part = qed 𝓛 (Token ∷ Ref ∷ []) ∵ nothing ! $ move ! (2 ∷ 0 ∷ []) $ fjoin ! $ move ! (1 ∷ 0 ∷ []) $ join ! $ frame ! $ done !
 
-  abbrev to-put : Summary → (Put 𝓛 mem run).Ghost
-  to-put s = (((κ', tt), (q', tt), tt, (s, (y, tt)), (SM'.lowered s ∷ [], (v ∷ [], tt))), tt)
+  abbrev to_put : Summary → (Put 𝓛 mem run).Ghost
+  to_put s = (((κ', tt), (q', tt), tt, (s, (y, tt)), (SM'.lowered s ∷ [], (v ∷ [], tt))), tt)
 
-  goes-put : (s : Summary) → Is SM.the_row s (SM'.lowered s ∷ []) → ent 𝓤 (⋆ 𝓛 (Token' ∷ Out ∷ [])) ((Put 𝓛 mem run).pre (to-put s))
-  goes-put s is =
+  goes_put : (s : Summary) → Is SM.the_row s (SM'.lowered s ∷ []) → ent 𝓤 (⋆ 𝓛 (Token' ∷ Out ∷ [])) ((Put 𝓛 mem run).pre (to_put s))
+  goes_put s is =
       qed 𝓛 (Token' ∷ Out ∷ []) ∵ nothing ! $ move ! (2 ∷ 0 ∷ []) $ fjoin ! $ owned ! SM.the_row (Is SM.the_row) (LL.makes SM.the_type SM'.the_plain 𝓛) s _ is $ fjoin ! $
       move ! (1 ∷ 0 ∷ []) $ join ! $ frame ! $ done !
 
@@ -164,8 +164,8 @@ module _ {M : Type 1} {𝓤 : Ura M} (𝓛 : Logic 𝓤) (mem : Memory → SProp
   abbrev Last : Summary → Lasts → Fml
   Last s = lasts put'.ended (κ', tt) (s, (y, tt))
 
-  open-exits : (s : Summary) (zs : Lasts) (r : ℕ) → TellsSummary h card y.now zs.1.0 r → Is u64 r (vint w64 r ∷ []) → ent 𝓤 (⋆ 𝓛 (Token' ∷ ‵ (Last s zs) ∷ Token ∷ [])) (Post (vint w64 r))
-  open-exits s zs r g ir =
+  open_exits : (s : Summary) (zs : Lasts) (r : ℕ) → TellsSummary h card y.now zs.1.0 r → Is u64 r (vint w64 r ∷ []) → ent 𝓤 (⋆ 𝓛 (Token' ∷ ‵ (Last s zs) ∷ Token ∷ [])) (Post (vint w64 r))
+  open_exits s zs r g ir =
       qed 𝓛 (Token' ∷ ‵ (Last s zs) ∷ Token ∷ []) ∵ move ! (1 ∷ []) $ fsplit ! $ drop ! $ fsplit ! $ fsplit ! $ move ! (1 ∷ []) $ feq_l ! (λ l.
       -- [the last list; true; the output's token; the station's]
       move ! (1 ∷ []) $ drop ! $ move ! (0 ∷ 2 ∷ []) $ by ! (exits zs.1.0 r l g ir))
@@ -178,45 +178,45 @@ module _ {M : Type 1} {𝓤 : Ura M} (𝓛 : Logic 𝓤) (mem : Memory → SProp
         pass1 ! (init ! 14 refl (tt, tt)) $ pass1 ! (init ! 12 refl (tt, record { fits = gk })) $ pass1 ! (init ! 10 refl (tt, (tt, (record { fits = g.0 }, tt)))) $ pass0 ! $
         move ! (19 ∷ []) $ fsplit ! $ move ! (1 ∷ []) $ fsplit ! $ drop ! $ fsplit ! $ move ! (1 ∷ []) $ drop ! $ move ! (20 ∷ []) $ split ! $ nothing ! $ move ! (1 ∷ 0 ∷ []) $ join ! $ move ! (0 ∷ 3 ∷ []) $
         -- [the station's token; its reference; the output's token; the output; _8; …; _0; …]: local i is at 20 - 2 · i
-        asks ! fm (Gate 𝓛 mem run) known-gate to-gate (goes-gate gk) u64 (vint w64) (uint_Tells w64) (λ r. r ≡ first_of (card_test card ∷ [])) _ (lasts card'.ended tt (card, tt)) (λ u. id⊢ 𝓤 _)
-        (λ P. and_then ! (local-of ! 17 refl refl) (no_more !)) (λ z ez iz.
+        asks ! fm (Gate 𝓛 mem run) known-gate to_gate (goes_gate gk) u64 (vint w64) (uint_Tells w64) (λ r. r ≡ first_of (card_test card ∷ [])) _ (lasts card'.ended tt (card, tt)) (λ u. id⊢ 𝓤 _)
+        (λ P. and_then ! (local_of ! 17 refl refl) (no_more !)) (λ z ez iz.
         land ! (from ! (stop !)) (init ! 12 refl ((uint_Lawful 𝓛 w64).typed z _ iz).0) $
-        sets ! (bin ! (lit ! tt) (local-of ! 12 refl refl) tt) 10 refl refl (tt, tt) $
-        either_way ! (local-of ! 10 refl refl)
-        (λ t. sets ! (of_opd ! (local-of ! 12 refl refl)) 20 refl refl ((uint_Lawful 𝓛 w64).typed z _ iz).0 $
+        sets ! (bin ! (lit ! tt) (local_of ! 12 refl refl) tt) 10 refl refl (tt, tt) $
+        either_way ! (local_of ! 10 refl refl)
+        (λ t. sets ! (of_opd ! (local_of ! 12 refl refl)) 20 refl refl ((uint_Lawful 𝓛 w64).typed z _ iz).0 $
         returns_within ! Post refl (look ! 20 refl) $ free_all (Token ∷ Ref ∷ Token' ∷ Out ∷ []) (holding _ ∷ holding _ ∷ holding _ ∷ holding _ ∷ holding _ ∷ holding _ ∷ []) ! $
-        by ! (shut-exits z (shut_tells h card y.now z ez t) iz))
-        (λ n. asks-with ! fm (Part 𝓛 mem run) known-part to_part Token Ref goes-part SM.the_row SM'.lowered (SM'.lowers).val_is _ (λ s zs. s ≡ h.summary) (lasts part'.ended (κ, tt) (ref_at b o γ h, tt)) (λ u. id⊢ 𝓤 _)
-        (λ S. and_then ! (local-of ! 17 refl refl) (no_more !)) (λ s zs es is. move ! (1 ∷ []) $ drop ! $
+        by ! (shut_exits z (shut_tells h card y.now z ez t) iz))
+        (λ n. asks_with ! fm (Part 𝓛 mem run) known-part to_part Token Ref goes_part SM.the_row SM'.lowered (SM'.lowers).val_is _ (λ s zs. s ≡ h.summary) (lasts part'.ended (κ, tt) (ref_at b o γ h, tt)) (λ u. id⊢ 𝓤 _)
+        (λ S. and_then ! (local_of ! 17 refl refl) (no_more !)) (λ s zs es is. move ! (1 ∷ []) $ drop ! $
         -- [the station's token; the output's; the output; _8; …; _0; …]: local i is at 19 - 2 · i
-        land ! (from ! (stop !)) (init ! 7 refl (summary-typed 𝓛 s is)) $
+        land ! (from ! (stop !)) (init ! 7 refl (summary_typed 𝓛 s is)) $
         sets ! (addr ! (from ! (fld ! refl (hop ! (look_in ! 13 (sub ! 0 refl (whole !))) (stop !))))) 5 refl refl (tt, tt) $
-        sets ! (agg ! (and_then ! (local-of ! 5 refl refl) (and_then ! (field-of ! 13 refl refl 1 refl) (no_more !)))) 3 refl refl (tt, (tt, (record { fits = g.0 }, tt))) $
+        sets ! (agg ! (and_then ! (local_of ! 5 refl refl) (and_then ! (field_of_lem ! 13 refl refl 1 refl) (no_more !)))) 3 refl refl (tt, (tt, (record { fits = g.0 }, tt))) $
         move ! (1 ∷ 2 ∷ []) $
-        asks-with ! fm (Put 𝓛 mem run) known-put (to-put s) Token' Out (goes-put s is) u64 (vint w64) (uint_Tells w64) Lasts (λ r ws. PutsOut 3 (summary_numbers s) y.now ws.1.0 r) (Last s) (λ u. id⊢ 𝓤 _)
-        (λ S. and_then ! (local-of ! 6 refl refl) (and_then ! (local-of ! 2 refl refl) (no_more !))) (λ r ws eg ir.
+        asks_with ! fm (Put 𝓛 mem run) known-put (to_put s) Token' Out (goes_put s is) u64 (vint w64) (uint_Tells w64) Lasts (λ r ws. PutsOut 3 (summary_numbers s) y.now ws.1.0 r) (Last s) (λ u. id⊢ 𝓤 _)
+        (λ S. and_then ! (local_of ! 6 refl refl) (and_then ! (local_of ! 2 refl refl) (no_more !))) (λ r ws eg ir.
         -- [the output's token; its last list; the station's token; _8; …; _0; …]: local i is at 19 - 2 · i
         land ! (from ! (stop !)) (init ! 19 refl ((uint_Lawful 𝓛 w64).typed r _ ir).0) $
         returns ! (look ! 19 refl) $ free_all (Token' ∷ ‵ (Last s ws) ∷ Token ∷ []) (holding _ ∷ holding _ ∷ holding _ ∷ holding _ ∷ holding _ ∷ holding _ ∷ holding _ ∷ holding _ ∷ holding _ ∷ []) ! $
-        by ! (open-exits s ws r (open_tells h card y.now ws.1.0 z r s ez n es eg) ir))))))))))))))
+        by ! (open_exits s ws r (open_tells h card y.now ws.1.0 z r s ez n es eg) ir))))))))))))))
 
 module _ {M : Type 1} {𝓤 : Ura M} (𝓛 : Logic 𝓤) (mem : Memory → SProp 𝓤) (run : Routine → Fun 𝓤) (𝓣 : Tables 𝓤 𝓛.H) (known-gate : Triple 𝓤 (𝓣.C #card-number) (Gate 𝓛 mem run)) (known-part : Triple 𝓤 (𝓣.C #summary-in) (Part 𝓛 mem run)) (known-put : Triple 𝓤 (𝓣.C #put-summary) (Put 𝓛 mem run)) where
   open 𝓛 use {H}
 
-  ask-walks : Walks 𝓛 ask.ended stayed (WpFn 𝓤 H 𝓣.C 𝓣.Λ code.function) (ask.clauses 𝓛 mem run)
-  ask-walks = walked 𝓛 ask.ended stayed (ask.clauses 𝓛 mem run) (WpFn 𝓤 H 𝓣.C 𝓣.Λ code.function) (λ κs. (shr_vals, (uint_vals w8, (mut_slice_vals, tt)))) (λ κs. (shr_Tells (named 0) κs.0 ST.the_row, (uint_Tells w8, (mut_slice_Tells (named 1) κs.1.0 u64, tt))))
+  ask_walks : Walks 𝓛 ask.ended stayed (WpFn 𝓤 H 𝓣.C 𝓣.Λ code.function) (ask.clauses 𝓛 mem run)
+  ask_walks = walked 𝓛 ask.ended stayed (ask.clauses 𝓛 mem run) (WpFn 𝓤 H 𝓣.C 𝓣.Λ code.function) (λ κs. (shr_vals, (uint_vals w8, (mut_slice_vals, tt)))) (λ κs. (shr_Tells (named 0) κs.0 ST.the_row, (uint_Tells w8, (mut_slice_Tells (named 1) κs.1.0 u64, tt))))
       (λ κs qs bounds a _ are. via 𝓤 _ (fst∗ 𝓤 _ (emp 𝓤)) (walk 𝓛 mem run κs.0 κs.1.0 qs.0 qs.1.0 a.0.ref_ptr.0 a.0.ref_ptr.1 a.0.ghost_name a.0.now a.1.0 a.1.1.0 𝓣.C 𝓣.Λ (fm_of 𝓤 H 𝓛.laws 𝓣) known-gate known-part known-put are.1.0.1 are.1.1.0.0.1))
 
-  ask-meets : Meets 𝓛 ask.signature (WpFn 𝓤 H 𝓣.C 𝓣.Λ code.function) (ask.spec 𝓛 mem run)
-  ask-meets = walk_Meets 𝓛 ask.ended stayed (Goes-dropped 𝓛 2 st_slot yes (λ κs x f. refl), (Goes-dropped 𝓛 2 (plain (λ _. u8)) yes (λ κs x f. refl), (Goes-gave_slice 𝓛 2 1 tt (plain (λ _. u64)), tt)))
-      (ask.clauses 𝓛 mem run) (WpFn 𝓤 H 𝓣.C 𝓣.Λ code.function) (WpFn-mono 𝓤 H 𝓛.laws 𝓣 code.function) ask-walks
+  ask_meets : Meets 𝓛 ask.signature (WpFn 𝓤 H 𝓣.C 𝓣.Λ code.function) (ask.spec 𝓛 mem run)
+  ask_meets = walk_Meets 𝓛 ask.ended stayed (Goes-dropped 𝓛 2 st_slot yes (λ κs x f. refl), (Goes-dropped 𝓛 2 (plain (λ _. u8)) yes (λ κs x f. refl), (Goes-gave_slice 𝓛 2 1 tt (plain (λ _. u64)), tt)))
+      (ask.clauses 𝓛 mem run) (WpFn 𝓤 H 𝓣.C 𝓣.Λ code.function) (WpFn-mono 𝓤 H 𝓛.laws 𝓣 code.function) ask_walks
 
 pub spineyarrow-summary-spec : {M : Type 1} → stated.statement M
 unfolding code.routine tables_of
 spineyarrow-summary-spec 𝓤 𝓛 𝓜 𝓡 =
     entered 𝓤 𝓛.H (triple_of 𝓛 ask.signature (ask.spec 𝓛 𝓜.mem 𝓡.run))
     (tables 𝓤 𝓛.H 𝓜 𝓡 code.env).C (tables 𝓤 𝓛.H 𝓜 𝓡 code.env).Λ #spineyarrow-summary code.function (code.unfolded 𝓤 𝓛.H 𝓜 𝓡)
-    (ask-meets 𝓛 𝓜.mem 𝓡.run (tables_of 𝓤 𝓛.H 𝓜 (tables 𝓤 𝓛.H 𝓜 𝓡 code.env))
+    (ask_meets 𝓛 𝓜.mem 𝓡.run (tables_of 𝓤 𝓛.H 𝓜 (tables 𝓤 𝓛.H 𝓜 𝓡 code.env))
     (cited 𝓤 𝓛.H (Gate 𝓛 𝓜.mem 𝓡.run) 𝓜 𝓡 code.env #card-number card_def.routine code.calls-lent-queries::telling::card-number (card-thm.met 𝓤 𝓛 𝓜 𝓡))
     (cited 𝓤 𝓛.H (Part 𝓛 𝓜.mem 𝓡.run) 𝓜 𝓡 code.env #summary-in part-def.routine code.calls-lent-queries::copying::summary-in (part-thm.met 𝓤 𝓛 𝓜 𝓡))
     (cited 𝓤 𝓛.H (Put 𝓛 𝓜.mem 𝓡.run) 𝓜 𝓡 code.env #put-summary put-def.routine code.calls-lent-queries::telling::put-summary (put-thm.met 𝓤 𝓛 𝓜 𝓡)))

@@ -43,10 +43,10 @@ use Rattle.station.specs.declared.Station.{Station}
 use Rattle.station.specs.contracts.Station as ST
 use Rattle.station.specs.Station.{channels, no_row, row_at}
 use Rattle.station.proofs.Station.TheLaws as ST'
-use Rattle.lent.proofs.Borrowed.{ref_at, looks-station, shuts-station}
-use Rattle.lent.proofs.Item.{low-is, low-typed, low-item}
+use Rattle.lent.proofs.Borrowed.{ref_at, looks_station, shuts_station}
+use Rattle.lent.proofs.Item.{low_is, low_typed, low_item}
 use Rattle.lent.proofs.Parts.{row_bytes, rows_of, row_typed}
-use Rattle.lent.proofs.Walk.{free_all, local-of, sets, addr-field}
+use Rattle.lent.proofs.Walk.{free_all, local_of, sets, addr_field}
 use Rattle.lent_queries.specs.contracts.copying.row_in.Key.{name as #lent-queries·row-in}
 use Rattle.lent_queries.specs.contracts.copying.row_in as leaf
 use Rattle.lent_queries.proofs.copying.row_in.Statement as stated
@@ -91,33 +91,33 @@ module _ {M : Type 1} {𝓤 : Ura M} (𝓛 : Logic 𝓤) (mem : Memory → SProp
         alloc1 ! (λ l₀. alloc1 ! (λ l₁. alloc1 ! (λ l₂. alloc1 ! (λ l₃. alloc1 ! (λ l₄. alloc1 ! (λ l₅. alloc1 ! (λ l₆. alloc0 ! $ params1 ! $ pass1 ! (init ! 10 refl (tt, tt)) $ pass1 ! (init ! 8 refl (tt, record { fits = gi })) $ pass0 ! $
         move ! (15 ∷ []) $ fsplit ! $ move ! (1 ∷ []) $ drop ! $ move ! (15 ∷ []) $ split ! $ move ! (1 ∷ []) $ drop ! $ move ! (1 ∷ 0 ∷ []) $
         -- [what the reference owns; the token; _6; …; room for _0; …]
-        looks-station ! tt h b o γ (λ q' ih.
+        looks_station ! tt h b o γ (λ q' ih.
         -- [a share of the station's cell; what shuts it; _6; …; room for _0; …]: local i is at 14 - 2 · i
-        sets ! (bin ! (local-of ! 10 refl refl) (lit ! tt) (record { fits = in_bytes_lem l })) 8 refl refl (tt, record { fits = in_bytes_lem l }) $
-        sets ! (addr-field ! 12 refl refl ST'.mir 0 refl) 6 refl refl (tt, tt) $
-        sets ! (bin ! (local-of ! 6 refl refl) (local-of ! 8 refl refl) tt) 4 refl refl (tt, tt) $
+        sets ! (bin ! (local_of ! 10 refl refl) (lit ! tt) (record { fits = in_bytes_lem l })) 8 refl refl (tt, record { fits = in_bytes_lem l }) $
+        sets ! (addr_field ! 12 refl refl ST'.mir 0 refl) 6 refl refl (tt, tt) $
+        sets ! (bin ! (local_of ! 6 refl refl) (local_of ! 8 refl refl) tt) 4 refl refl (tt, tt) $
         rewrite ! 4 (λ (z : ℕ). ‵ (fat full_share ty_ptr l₅ 0 (vptr b z))) (sym (place_is row_bytes (o + 0) i)) refl $
-        sets ! (of_opd ! (load ! (from ! (hop ! (look ! 4 refl) (stop !))) (look_in ! 0 (low-item ! RW.the_type RW'.lowers h.rows (rows_of h _ ih) i l no_row (sub ! 0 refl (whole !)))))) 2 refl refl (low-typed RW.the_type RW'.lowers channels h.rows (rows_of h _ ih) i l no_row RW'.mir (row_typed 𝓛)) $
+        sets ! (of_opd ! (load ! (from ! (hop ! (look ! 4 refl) (stop !))) (look_in ! 0 (low_item ! RW.the_type RW'.lowers h.rows (rows_of h _ ih) i l no_row (sub ! 0 refl (whole !)))))) 2 refl refl (low_typed RW.the_type RW'.lowers channels h.rows (rows_of h _ ih) i l no_row RW'.mir (row_typed 𝓛)) $
         rewrite ! 2 (λ (w : Val). ‵ (fat full_share RW'.mir l₆ 0 w)) (get_or-map RW'.lowered h.rows i no_row) refl $
-        sets ! (of_opd ! (local-of ! 2 refl refl)) 14 refl refl (row_typed 𝓛 it (low-is RW.the_type RW'.lowers channels h.rows (rows_of h _ ih) i l no_row)) $
-        shuts-station ! tt q' h b o ih $
+        sets ! (of_opd ! (local_of ! 2 refl refl)) 14 refl refl (row_typed 𝓛 it (low_is RW.the_type RW'.lowers channels h.rows (rows_of h _ ih) i l no_row)) $
+        shuts_station ! tt q' h b o ih $
         returns ! (look ! 13 refl) $ free_all (‵ (flft κ q) ∷ []) (holding _ ∷ holding _ ∷ holding _ ∷ holding _ ∷ holding _ ∷ holding _ ∷ holding _ ∷ []) ! $
-        by ! (exits (low-is RW.the_type RW'.lowers channels h.rows (rows_of h _ ih) i l no_row))))))))))
+        by ! (exits (low_is RW.the_type RW'.lowers channels h.rows (rows_of h _ ih) i l no_row))))))))))
 
 module _ {M : Type 1} {𝓤 : Ura M} (𝓛 : Logic 𝓤) (mem : Memory → SProp 𝓤) (run : Routine → Fun 𝓤) (𝓣 : Tables 𝓤 𝓛.H) where
   open 𝓛 use {H}
 
-  leaf-walks : Walks 𝓛 leaf.ended stayed (WpFn 𝓤 H 𝓣.C 𝓣.Λ code.function) (leaf.clauses 𝓛 mem run)
-  leaf-walks = walked 𝓛 leaf.ended stayed (leaf.clauses 𝓛 mem run) (WpFn 𝓤 H 𝓣.C 𝓣.Λ code.function) (λ κs. (shr_vals, (uint_vals w64, tt))) (λ κs. (shr_Tells (named 0) κs.0 ST.the_row, (uint_Tells w64, tt)))
+  leaf_walks : Walks 𝓛 leaf.ended stayed (WpFn 𝓤 H 𝓣.C 𝓣.Λ code.function) (leaf.clauses 𝓛 mem run)
+  leaf_walks = walked 𝓛 leaf.ended stayed (leaf.clauses 𝓛 mem run) (WpFn 𝓤 H 𝓣.C 𝓣.Λ code.function) (λ κs. (shr_vals, (uint_vals w64, tt))) (λ κs. (shr_Tells (named 0) κs.0 ST.the_row, (uint_Tells w64, tt)))
       (λ κs qs bounds a _ are. needs 𝓤 (a.1.0 < channels) _ (λ l. walk 𝓛 mem run κs.0 qs.0 a.0.ref_ptr.0 a.0.ref_ptr.1 0 a.0.now a.1.0 𝓣.C 𝓣.Λ are.1.0.1 l))
 
-  leaf-meets : Meets 𝓛 leaf.signature (WpFn 𝓤 H 𝓣.C 𝓣.Λ code.function) (leaf.spec 𝓛 mem run)
-  leaf-meets = walk_Meets 𝓛 leaf.ended stayed (Goes-dropped 𝓛 1 st_slot yes (λ κs x f. refl), (Goes-dropped 𝓛 1 (plain (λ _. usize)) yes (λ κs x f. refl), tt))
-      (leaf.clauses 𝓛 mem run) (WpFn 𝓤 H 𝓣.C 𝓣.Λ code.function) (WpFn-mono 𝓤 H 𝓛.laws 𝓣 code.function) leaf-walks
+  leaf_meets : Meets 𝓛 leaf.signature (WpFn 𝓤 H 𝓣.C 𝓣.Λ code.function) (leaf.spec 𝓛 mem run)
+  leaf_meets = walk_Meets 𝓛 leaf.ended stayed (Goes-dropped 𝓛 1 st_slot yes (λ κs x f. refl), (Goes-dropped 𝓛 1 (plain (λ _. usize)) yes (λ κs x f. refl), tt))
+      (leaf.clauses 𝓛 mem run) (WpFn 𝓤 H 𝓣.C 𝓣.Λ code.function) (WpFn-mono 𝓤 H 𝓛.laws 𝓣 code.function) leaf_walks
 
 pub row-in-spec : {M : Type 1} → stated.statement M
 unfolding code.routine tables_of
 row-in-spec 𝓤 𝓛 𝓜 𝓡 =
     entered 𝓤 𝓛.H (triple_of 𝓛 leaf.signature (leaf.spec 𝓛 𝓜.mem 𝓡.run))
     (tables 𝓤 𝓛.H 𝓜 𝓡 code.env).C (tables 𝓤 𝓛.H 𝓜 𝓡 code.env).Λ #lent-queries·row-in code.function (code.unfolded 𝓤 𝓛.H 𝓜 𝓡)
-    (leaf-meets 𝓛 𝓜.mem 𝓡.run (tables_of 𝓤 𝓛.H 𝓜 (tables 𝓤 𝓛.H 𝓜 𝓡 code.env)))
+    (leaf_meets 𝓛 𝓜.mem 𝓡.run (tables_of 𝓤 𝓛.H 𝓜 (tables 𝓤 𝓛.H 𝓜 𝓡 code.env)))

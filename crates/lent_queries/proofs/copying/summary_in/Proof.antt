@@ -34,8 +34,8 @@ use Rattle.summary.specs.contracts.Summary as SM
 use Rattle.summary.proofs.Summary.TheLaws as SM'
 use Rattle.station.specs.declared.Station.{Station}
 use Rattle.station.specs.contracts.Station as ST
-use Rattle.lent.proofs.Borrowed.{ref_at, looks-station, shuts-station}
-use Rattle.lent.proofs.Parts.{summary_of, summary-typed}
+use Rattle.lent.proofs.Borrowed.{ref_at, looks_station, shuts_station}
+use Rattle.lent.proofs.Parts.{summary_of, summary_typed}
 use Rattle.lent.proofs.Walk.{free_all, sets}
 use Rattle.lent_queries.specs.contracts.copying.summary_in.Key.{name as #lent-queries·summary-in}
 use Rattle.lent_queries.specs.contracts.copying.summary_in as leaf
@@ -74,26 +74,26 @@ module _ {M : Type 1} {𝓤 : Ura M} (𝓛 : Logic 𝓤) (mem : Memory → SProp
         alloc1 ! (λ l₀. alloc1 ! (λ l₁. alloc0 ! $ params1 ! $ pass1 ! (init ! 0 refl (tt, tt)) $ pass0 ! $
         move ! (5 ∷ []) $ fsplit ! $ move ! (1 ∷ []) $ drop ! $ move ! (5 ∷ []) $ split ! $ move ! (1 ∷ []) $ drop ! $ move ! (1 ∷ 0 ∷ []) $
         -- [what the reference owns; the token; _1; …; room for _0; …]
-        looks-station ! tt h b o γ (λ q' ih.
+        looks_station ! tt h b o γ (λ q' ih.
         -- [a share of the station's cell; what shuts it; _1; …; room for _0; …]
-        sets ! (of_opd ! (load ! (from ! (hop ! (look ! 2 refl) (fld ! refl (stop !)))) (look_in ! 0 (sub ! 2 refl (whole !))))) 4 refl refl (summary-typed 𝓛 h.summary (summary_of h _ ih)) $
-        shuts-station ! tt q' h b o ih $
+        sets ! (of_opd ! (load ! (from ! (hop ! (look ! 2 refl) (fld ! refl (stop !)))) (look_in ! 0 (sub ! 2 refl (whole !))))) 4 refl refl (summary_typed 𝓛 h.summary (summary_of h _ ih)) $
+        shuts_station ! tt q' h b o ih $
         returns ! (look ! 3 refl) $ free_all (‵ (flft κ q) ∷ []) (holding _ ∷ holding _ ∷ []) ! $ by ! (exits (summary_of h _ ih)))))
 
 module _ {M : Type 1} {𝓤 : Ura M} (𝓛 : Logic 𝓤) (mem : Memory → SProp 𝓤) (run : Routine → Fun 𝓤) (𝓣 : Tables 𝓤 𝓛.H) where
   open 𝓛 use {H}
 
-  leaf-walks : Walks 𝓛 leaf.ended stayed (WpFn 𝓤 H 𝓣.C 𝓣.Λ code.function) (leaf.clauses 𝓛 mem run)
-  leaf-walks = walked 𝓛 leaf.ended stayed (leaf.clauses 𝓛 mem run) (WpFn 𝓤 H 𝓣.C 𝓣.Λ code.function) (λ κs. (shr_vals, tt)) (λ κs. (shr_Tells (named 0) κs.0 ST.the_row, tt))
+  leaf_walks : Walks 𝓛 leaf.ended stayed (WpFn 𝓤 H 𝓣.C 𝓣.Λ code.function) (leaf.clauses 𝓛 mem run)
+  leaf_walks = walked 𝓛 leaf.ended stayed (leaf.clauses 𝓛 mem run) (WpFn 𝓤 H 𝓣.C 𝓣.Λ code.function) (λ κs. (shr_vals, tt)) (λ κs. (shr_Tells (named 0) κs.0 ST.the_row, tt))
       (λ κs qs bounds a _ are. via 𝓤 _ (fst∗ 𝓤 _ (emp 𝓤)) (walk 𝓛 mem run κs.0 qs.0 a.0.ref_ptr.0 a.0.ref_ptr.1 0 a.0.now 𝓣.C 𝓣.Λ))
 
-  leaf-meets : Meets 𝓛 leaf.signature (WpFn 𝓤 H 𝓣.C 𝓣.Λ code.function) (leaf.spec 𝓛 mem run)
-  leaf-meets = walk_Meets 𝓛 leaf.ended stayed (Goes-dropped 𝓛 1 st_slot yes (λ κs x f. refl), tt)
-      (leaf.clauses 𝓛 mem run) (WpFn 𝓤 H 𝓣.C 𝓣.Λ code.function) (WpFn-mono 𝓤 H 𝓛.laws 𝓣 code.function) leaf-walks
+  leaf_meets : Meets 𝓛 leaf.signature (WpFn 𝓤 H 𝓣.C 𝓣.Λ code.function) (leaf.spec 𝓛 mem run)
+  leaf_meets = walk_Meets 𝓛 leaf.ended stayed (Goes-dropped 𝓛 1 st_slot yes (λ κs x f. refl), tt)
+      (leaf.clauses 𝓛 mem run) (WpFn 𝓤 H 𝓣.C 𝓣.Λ code.function) (WpFn-mono 𝓤 H 𝓛.laws 𝓣 code.function) leaf_walks
 
 pub summary-in-spec : {M : Type 1} → stated.statement M
 unfolding code.routine tables_of
 summary-in-spec 𝓤 𝓛 𝓜 𝓡 =
     entered 𝓤 𝓛.H (triple_of 𝓛 leaf.signature (leaf.spec 𝓛 𝓜.mem 𝓡.run))
     (tables 𝓤 𝓛.H 𝓜 𝓡 code.env).C (tables 𝓤 𝓛.H 𝓜 𝓡 code.env).Λ #lent-queries·summary-in code.function (code.unfolded 𝓤 𝓛.H 𝓜 𝓡)
-    (leaf-meets 𝓛 𝓜.mem 𝓡.run (tables_of 𝓤 𝓛.H 𝓜 (tables 𝓤 𝓛.H 𝓜 𝓡 code.env)))
+    (leaf_meets 𝓛 𝓜.mem 𝓡.run (tables_of 𝓤 𝓛.H 𝓜 (tables 𝓤 𝓛.H 𝓜 𝓡 code.env)))

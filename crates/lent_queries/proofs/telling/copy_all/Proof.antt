@@ -9,7 +9,7 @@ use native.Mathlib.Nat.{le_antisymm, lt_of_le_of_lt}
 use native.Mathlib.Numerals.{add-one, add-one-le}
 use lib.ListN.{length, take, drop, get_or, set, length-set}
 use borrow.Author.Count.{falls}
-use Rattle.lent_queries.proofs.Filled.{stored, whole-copied}
+use Rattle.lent_queries.proofs.Filled.{stored, whole_copied}
 use Rattle.lent_queries.proofs.telling.copy_all.Statement.{statement}
 use Rattle.lent_queries.proofs.telling.copy_all.Tie as tie
 
@@ -87,7 +87,7 @@ unfolding invariant-loop
 returns c =
     let at-loop = c.before in
     let a = at-loop.before.args in
-    at-loop.loop.invariant.1.0 ∙ ap (λ (n : ℕ). take n a.made.now ++ drop n a.out.now) (le_antisymm at-loop.loop.invariant.0 c.loop-test.false) ∙ whole-copied a.made.now a.out.now at-loop.before.requires
+    at-loop.loop.invariant.1.0 ∙ ap (λ (n : ℕ). take n a.made.now ++ drop n a.out.now) (le_antisymm at-loop.loop.invariant.0 c.loop-test.false) ∙ whole_copied a.made.now a.out.now at-loop.before.requires
 
 pub copy-all-spec : {M : Type 1} → statement M
 copy-all-spec = tie.close (tie.spec invariant-loop decreases-loop loop-holds mul-out shared-slice-read-out mul-out-2 slice-write-out add-i loop-less loop-again same_length returns)

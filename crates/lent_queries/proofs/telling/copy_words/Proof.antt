@@ -14,7 +14,7 @@ use mir.Val.{SFits, to_z, of_z, hbits}
 use mir.Facts.{to_z-of_z}
 use lib.ListN.{length, take, drop, get_or, set, length-set}
 use borrow.Author.Count.{falls}
-use Rattle.lent_queries.proofs.Filled.{stored, whole-copied}
+use Rattle.lent_queries.proofs.Filled.{stored, whole_copied}
 use Rattle.lent_queries.proofs.telling.copy_words.Statement.{statement}
 use Rattle.lent_queries.proofs.telling.copy_words.Tie as tie
 
@@ -99,7 +99,7 @@ unfolding invariant-loop
 returns c =
     let at-loop = c.before in
     let a = at-loop.before.args in
-    at-loop.loop.invariant.1.0 ∙ ap (λ (n : ℕ). take n a.made.now ++ drop n a.out.now) (le_antisymm at-loop.loop.invariant.0 c.loop-test.false) ∙ whole-copied a.made.now a.out.now at-loop.before.requires
+    at-loop.loop.invariant.1.0 ∙ ap (λ (n : ℕ). take n a.made.now ++ drop n a.out.now) (le_antisymm at-loop.loop.invariant.0 c.loop-test.false) ∙ whole_copied a.made.now a.out.now at-loop.before.requires
 
 pub copy-words-spec : {M : Type 1} → statement M
 copy-words-spec = tie.close (tie.spec invariant-loop decreases-loop loop-holds mul-out shared-slice-copy-out-out mul-t8 slice-set-from-out add-i loop-less loop-again same_length returns)

@@ -9,18 +9,18 @@ use Rattle.records.specs.declared.named.EvenString.{EvenString}
 use Rattle.records.specs.declared.named.OddString.{OddString}
 use Rattle.book.specs.Entry.{meaning, even_words}
 use Rattle.lent_queries.specs.Lent.{entry_list, entry_numbers}
-use Rattle.lent_queries.proofs.Said.{room-none, then-nothing, then-made}
+use Rattle.lent_queries.proofs.Said.{room_none, then_nothing, then_made_lem}
 use Rattle.lent_queries.proofs.telling.put_entry.Statement.{statement}
 use Rattle.lent_queries.proofs.telling.put_entry.Tie as tie
 
 returns : tie.Need-returns
-returns c = let a = c.before.args in room-none 13 a.out.now (entry_numbers a.e) a.out.now (test 13 (eqb a.e.day 0) ∷ []) c.if1.true
+returns c = let a = c.before.args in room_none 13 a.out.now (entry_numbers a.e) a.out.now (test 13 (eqb a.e.day 0) ∷ []) c.if1.true
 
 returns-2 : tie.Need-returns-2
 returns-2 c =
     let f = c.before.before in
     let a = f.before.args in
-    then-nothing 13 a.out.now (entry_numbers a.e) a.out.now (eqb a.e.day 0) f.if1.false (eq-eqb a.e.day 0 c.if2.true)
+    then_nothing 13 a.out.now (entry_numbers a.e) a.out.now (eqb a.e.day 0) f.if1.false (eq-eqb a.e.day 0 c.if2.true)
 
 even-words-requires : tie.Need-even-words-requires
 even-words-requires c κs = search rules
@@ -49,7 +49,7 @@ returns-3 c =
     let f₂ = v.before in
     let f = f₂.before.before in
     let a = f.before.args in
-    then-made 13 a.out.now (entry_numbers a.e) a.out.now (eqb a.e.day 0) _ f.if1.false (ne_eqb a.e.day 0 f₂.if2.false)
+    then_made_lem 13 a.out.now (entry_numbers a.e) a.out.now (eqb a.e.day 0) _ f.if1.false (ne_eqb a.e.day 0 f₂.if2.false)
     (k.copy-words.ensures ∙ l.entry-list.ensures ∙ ap (λ (x : EvenString). entry_list a.e.day x o.odd-words.result) v.even-words.ensures
     ∙ ap (λ (x : OddString). entry_list a.e.day (even_words (meaning a.e)) x) o.odd-words.ensures)
 

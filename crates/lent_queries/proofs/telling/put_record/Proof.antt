@@ -8,7 +8,7 @@ use Rattle.words.specs.Immediate.{immediate_of}
 use Rattle.immediate.specs.Kept.{has_record}
 use Rattle.shows.proofs.Shows.{is_so, is_not}
 use Rattle.lent_queries.specs.Lent.{words_list}
-use Rattle.lent_queries.proofs.Said.{room-none, then-nothing, then-made}
+use Rattle.lent_queries.proofs.Said.{room_none, then_nothing, then_made_lem}
 use Rattle.lent_queries.proofs.telling.put_record.Statement.{statement}
 use Rattle.lent_queries.proofs.telling.put_record.Tie as tie
 
@@ -17,8 +17,8 @@ returns c =
     let a = c.before.args in
     let i = a.row.immediate in
     record {
-      raw = room-none 26 a.words.now (words_list (immediate_of i.strings)) a.words.now (test 13 (not (has_record i)) ∷ []) c.if1.true;
-      begins = room-none 26 a.words.now i.start a.start.now (test 13 (not (has_record i)) ∷ []) c.if1.true;
+      raw = room_none 26 a.words.now (words_list (immediate_of i.strings)) a.words.now (test 13 (not (has_record i)) ∷ []) c.if1.true;
+      begins = room_none 26 a.words.now i.start a.start.now (test 13 (not (has_record i)) ∷ []) c.if1.true;
     }
 
 has-record-requires : tie.Need-has-record-requires
@@ -32,8 +32,8 @@ returns-2 c =
     let i = a.row.immediate in
     let n = ap not (is_not h.has_record_lem.ensures c.if2.true) in
     record {
-      raw = then-nothing 26 a.words.now (words_list (immediate_of i.strings)) a.words.now (not (has_record i)) f.if1.false n;
-      begins = then-nothing 26 a.words.now i.start a.start.now (not (has_record i)) f.if1.false n;
+      raw = then_nothing 26 a.words.now (words_list (immediate_of i.strings)) a.words.now (not (has_record i)) f.if1.false n;
+      begins = then_nothing 26 a.words.now i.start a.start.now (not (has_record i)) f.if1.false n;
     }
 
 immediate-words-requires : tie.Need-immediate-words-requires
@@ -63,8 +63,8 @@ returns-3 c =
     let i = a.row.immediate in
     let n = ap not (is_so h.has_record_lem.ensures f₂.if2.false) in
     record {
-      raw = then-made 26 a.words.now (words_list (immediate_of i.strings)) a.words.now (not (has_record i)) _ f.if1.false n (k.copy-words.ensures ∙ l.record-list.ensures ∙ ap words_list w.immediate-words.ensures);
-      begins = then-made 26 a.words.now i.start a.start.now (not (has_record i)) _ f.if1.false n refl;
+      raw = then_made_lem 26 a.words.now (words_list (immediate_of i.strings)) a.words.now (not (has_record i)) _ f.if1.false n (k.copy-words.ensures ∙ l.record-list.ensures ∙ ap words_list w.immediate-words.ensures);
+      begins = then_made_lem 26 a.words.now i.start a.start.now (not (has_record i)) _ f.if1.false n refl;
     }
 
 pub put-record-spec : {M : Type 1} → statement M

@@ -69,10 +69,10 @@ use Rattle.station.specs.declared.Station.{Station}
 use Rattle.station.specs.Station.{channels, no_row}
 use Rattle.station.specs.contracts.Station as ST
 use Rattle.station.proofs.Station.TheLaws as ST'
-use Rattle.lent.proofs.Borrowed.{opens-station, closes-station}
-use Rattle.lent.proofs.Item.{map_set, Lows, lows-set, low-item}
-use Rattle.lent.proofs.Parts.{row_bytes, rows_val, station_val, rows_of, made_of, row_typed, summary-typed}
-use Rattle.lent.proofs.Walk.{envOf, locals, free_all, keeps, local-of, sets, asks, addr-field}
+use Rattle.lent.proofs.Borrowed.{opens_station, closes_station}
+use Rattle.lent.proofs.Item.{map_set, Lows, lows_set, low_item}
+use Rattle.lent.proofs.Parts.{row_bytes, rows_val, station_val, rows_of, made_of, row_typed, summary_typed}
+use Rattle.lent.proofs.Walk.{env_of, locals, free_all, keeps, local_of, sets, asks, addr_field}
 use Rattle.lent_sites.specs.Lent.{FreshLent}
 use Rattle.lent_sites.proofs.Loops.{Emptied, emptied_none, emptied_more, emptied_all, no_summary}
 use Rattle.lent_sites.specs.contracts.emptying.spineyarrow_fresh.Key.{name as #lent-sites·spineyarrow-fresh}
@@ -123,24 +123,24 @@ module _ {M : Type 1} {𝓤 : Ura M} (𝓛 : Logic 𝓤) (at_mem : Memory → SP
   abbrev to_row : (EmptyRow 𝓛 at_mem run).Ghost
   to_row = ((tt, tt, tt, tt, tt), tt)
 
-  goes-row : ent 𝓤 (emp 𝓤) ((EmptyRow 𝓛 at_mem run).pre to_row)
-  goes-row = qed 𝓛 [] ∵ nothing ! $ nothing ! $ join ! $ frame ! $ done !
+  goes_row : ent 𝓤 (emp 𝓤) ((EmptyRow 𝓛 at_mem run).pre to_row)
+  goes_row = qed 𝓛 [] ∵ nothing ! $ nothing ! $ join ! $ frame ! $ done !
 
-  abbrev to-book : (EmptyBook 𝓛 at_mem run).Ghost
-  to-book = ((tt, tt, tt, tt, tt), tt)
+  abbrev to_book : (EmptyBook 𝓛 at_mem run).Ghost
+  to_book = ((tt, tt, tt, tt, tt), tt)
 
-  goes-book : ent 𝓤 (emp 𝓤) ((EmptyBook 𝓛 at_mem run).pre to-book)
-  goes-book = qed 𝓛 [] ∵ nothing ! $ nothing ! $ join ! $ frame ! $ done !
+  goes_book : ent 𝓤 (emp 𝓤) ((EmptyBook 𝓛 at_mem run).pre to_book)
+  goes_book = qed 𝓛 [] ∵ nothing ! $ nothing ! $ join ! $ frame ! $ done !
 
-  book-typed : (y : Book) → Is BK.the_row y (BK'.lowered y ∷ []) → T (has_ty BK'.mir (BK'.lowered y)) × WT (BK'.lowered y)
-  book-typed y p = ((LL.lawful BK.the_type BK'.the_laws 𝓛).typed y _ p).0
+  book_typed : (y : Book) → Is BK.the_row y (BK'.lowered y ∷ []) → T (has_ty BK'.mir (BK'.lowered y)) × WT (BK'.lowered y)
+  book_typed y p = ((LL.lawful BK.the_type BK'.the_laws 𝓛).typed y _ p).0
 
-  no-summary : Is SM.the_row no_summary (SM'.lowered no_summary ∷ [])
-  no-summary = ((vint w64 0 ∷ [], (vint w16 0 ∷ [], (vint w16 0 ∷ [], tt))), (refl, ((refl, lit< tt), ((refl, lit< tt), ((refl, lit< tt), tt)))))
+  no_summary_lem : Is SM.the_row no_summary (SM'.lowered no_summary ∷ [])
+  no_summary_lem = ((vint w64 0 ∷ [], (vint w16 0 ∷ [], (vint w16 0 ∷ [], tt))), (refl, ((refl, lit< tt), ((refl, lit< tt), ((refl, lit< tt), tt)))))
 
   -- the station's machine value with other rows
-  abbrev withRows : List Row → Val
-  withRows rs = station_val (rows_val rs) (BK'.lowered h.book) (SM'.lowered h.summary)
+  abbrev with_rows : List Row → Val
+  with_rows rs = station_val (rows_val rs) (BK'.lowered h.book) (SM'.lowered h.summary)
 
   module _ (𝓣 : Tables 𝓤 H) (known-row : Triple 𝓤 (𝓣.C #channel·empty-row) (EmptyRow 𝓛 at_mem run)) (known-book : Triple 𝓤 (𝓣.C #book·empty-book) (EmptyBook 𝓛 at_mem run)) where
     abbrev C : Calls 𝓤 H
@@ -163,17 +163,17 @@ module _ {M : Type 1} {𝓤 : Ura M} (𝓛 : Logic 𝓤) (at_mem : Memory → SP
     abbrev Nearer : St → St → Type 0
     Nearer t' t = channels - t'.i < channels - t.i
 
-    Nearer-wf : WellFounded Nearer
-    Nearer-wf = InvImage.wf (λ (t : St). channels - t.i) lt-wf_rel.wf
+    nearer_wf : WellFounded Nearer
+    nearer_wf = InvImage.wf (λ (t : St). channels - t.i) lt-wf_rel.wf
 
     -- ---- the locals, where they lie
     module _ (l₀ l₁ l₂ l₃ l₄ l₅ l₆ l₇ l₈ : ℕ) where
       abbrev En : Env 𝓤 H
-      En = envOf 𝓤 H body.locals (l₀ ∷ l₁ ∷ l₂ ∷ l₃ ∷ l₄ ∷ l₅ ∷ l₆ ∷ l₇ ∷ l₈ ∷ [])
+      En = env_of 𝓤 H body.locals (l₀ ∷ l₁ ∷ l₂ ∷ l₃ ∷ l₄ ∷ l₅ ∷ l₆ ∷ l₇ ∷ l₈ ∷ [])
 
       -- [the station's cell; the open borrow; obs; auth; _8; …; _0; …]: local i is at 20 - 2 · i
       abbrev At : St → List (Item 𝓤)
-      At t = ‵ (fat full_share ST'.mir b o (withRows t.rs)) ∷ ‵ (fobor κ q (Body (mem ST.the_row) b o γ)) ∷ ‵ (fobs γ ((ST.the_row).coded.code h)) ∷ ‵ (fauth γ ((ST.the_row).coded.code h)) ∷ locals 𝓤 H En (none ∷ holding (vptr b o) ∷ holding (vint w64 t.i) ∷ [])
+      At t = ‵ (fat full_share ST'.mir b o (with_rows t.rs)) ∷ ‵ (fobor κ q (Body (mem ST.the_row) b o γ)) ∷ ‵ (fobs γ ((ST.the_row).coded.code h)) ∷ ‵ (fauth γ ((ST.the_row).coded.code h)) ∷ locals 𝓤 H En (none ∷ holding (vptr b o) ∷ holding (vint w64 t.i) ∷ [])
 
       abbrev Turned : St → Out → SProp 𝓤
       Turned t = after_turn 𝓤 H (Below 𝓛 Nearer At t) (after_block 𝓤 H (after_seq 𝓤 H (Wp 𝓤 H C Λ En body.t-3 (at_return 𝓤 H En Post)) (at_return 𝓤 H En Post)))
@@ -181,18 +181,18 @@ module _ {M : Type 1} {𝓤 : Ura M} (𝓛 : Logic 𝓤) (at_mem : Memory → SP
       more : (t : St) → t.i < channels → Sq 𝓛 (At t) (runs C Λ En body.turn-1 (any_q (Turned t)))
       unfolding after_turn
       more t l =
-          sets ! (bin ! (local-of ! 16 refl refl) (lit ! tt) tt) 14 refl refl (tt, tt) $
-          rewrite ! 14 (λ (z : Bool). ‵ (fat full_share ty_bool l₃ 0 (vbool z))) (lt-ltb _ _ l) refl $ stays ! (local-of ! 14 refl refl) $
-          asks ! fm (EmptyRow 𝓛 at_mem run) known-row to_row goes-row RW.the_row (λ d. RW'.lowered d) (RW'.lowers).val_is (λ r. r ≡ empty_row) _ (lasts empty'.ended tt tt) (λ u. id⊢ 𝓤 _)
+          sets ! (bin ! (local_of ! 16 refl refl) (lit ! tt) tt) 14 refl refl (tt, tt) $
+          rewrite ! 14 (λ (z : Bool). ‵ (fat full_share ty_bool l₃ 0 (vbool z))) (lt-ltb _ _ l) refl $ stays ! (local_of ! 14 refl refl) $
+          asks ! fm (EmptyRow 𝓛 at_mem run) known-row to_row goes_row RW.the_row (λ d. RW'.lowered d) (RW'.lowers).val_is (λ r. r ≡ empty_row) _ (lasts empty'.ended tt tt) (λ u. id⊢ 𝓤 _)
           (λ P. no_more !) (λ r er ir.
           land ! (from ! (stop !)) (init ! 12 refl (row_typed 𝓛 r ir)) $
-          sets ! (bin ! (local-of ! 16 refl refl) (lit ! tt) (record { fits = in_bytes_lem })) 10 refl refl (tt, record { fits = in_bytes_lem }) $
-          sets ! (addr-field ! 18 refl refl ST'.mir 0 refl) 8 refl refl (tt, tt) $
-          sets ! (bin ! (local-of ! 8 refl refl) (local-of ! 10 refl refl) tt) 6 refl refl (tt, tt) $
+          sets ! (bin ! (local_of ! 16 refl refl) (lit ! tt) (record { fits = in_bytes_lem })) 10 refl refl (tt, record { fits = in_bytes_lem }) $
+          sets ! (addr_field ! 18 refl refl ST'.mir 0 refl) 8 refl refl (tt, tt) $
+          sets ! (bin ! (local_of ! 8 refl refl) (local_of ! 10 refl refl) tt) 6 refl refl (tt, tt) $
           rewrite ! 6 (λ (z : ℕ). ‵ (fat full_share ty_ptr l₇ 0 (vptr b z))) (sym (place_is row_bytes (o + 0) t.i)) refl $
-          assigns ! (of_opd ! (local-of ! 12 refl refl)) (from ! (hop ! (look ! 6 refl) (stop !))) (store_in ! 0 (low-item ! RW.the_type RW'.lowers t.rs (t.so_far.long, t.lows) t.i l no_row (sub ! 0 refl (whole !))) (row_typed 𝓛 r ir)) $
+          assigns ! (of_opd ! (local_of ! 12 refl refl)) (from ! (hop ! (look ! 6 refl) (stop !))) (store_in ! 0 (low_item ! RW.the_type RW'.lowers t.rs (t.so_far.long, t.lows) t.i l no_row (sub ! 0 refl (whole !))) (row_typed 𝓛 r ir)) $
           rewrite ! 0 (λ (ws : List Val). ‵ (fat full_share ST'.mir b o (station_val (array_val ws) (BK'.lowered h.book) (SM'.lowered h.summary)))) (map_set RW'.lowered t.rs t.i r) refl $
-          assigns_last ! (bin ! (local-of ! 16 refl refl) (lit ! tt) (record { fits = next_fits })) (from ! (stop !)) (store ! 16 refl (tt, record { fits = next_fits })) $
+          assigns_last ! (bin ! (local_of ! 16 refl refl) (lit ! tt) (record { fits = next_fits })) (from ! (stop !)) (store ! 16 refl (tt, record { fits = next_fits })) $
           keeps (_ ∷ _ ∷ _ ∷ _ ∷ []) En loop_kept (none ∷ holding _ ∷ holding _ ∷ holding _ ∷ holding _ ∷ holding _ ∷ holding _ ∷ holding _ ∷ []) ! $ again ! Nearer At t (next r er ir) nearer)
         where
           in_bytes_lem : t.i * row_bytes < 2 ^ 64
@@ -205,20 +205,20 @@ module _ {M : Type 1} {𝓤 : Ura M} (𝓛 : Logic 𝓤) (at_mem : Memory → SP
           nearer = omega (arith, l)
 
           next : (r : Row) → r ≡ empty_row → Is RW.the_row r (RW'.lowered r ∷ []) → St
-          next r er ir = record { i = t.i + 1; rs = set t.rs t.i r; upto = omega (arith, l); so_far = emptied_more t.i t.rs r l er t.so_far; lows = lows-set RW.the_type RW'.lowers t.rs t.i r ir t.lows }
+          next r er ir = record { i = t.i + 1; rs = set t.rs t.i r; upto = omega (arith, l); so_far = emptied_more t.i t.rs r l er t.so_far; lows = lows_set RW.the_type RW'.lowers t.rs t.i r ir t.lows }
 
       over : (t : St) → t.i ≡ channels → Sq 𝓛 (At t) (runs C Λ En body.turn-1 (any_q (Turned t)))
       unfolding after_turn
       over t l =
-          sets ! (bin ! (local-of ! 16 refl refl) (lit ! tt) tt) 14 refl refl (tt, tt) $
-          rewrite ! 14 (λ (z : Bool). ‵ (fat full_share ty_bool l₃ 0 (vbool z))) (le-ltb t.i channels (omega (arith, l))) refl $ leaves_loop ! (local-of ! 14 refl refl) $
+          sets ! (bin ! (local_of ! 16 refl refl) (lit ! tt) tt) 14 refl refl (tt, tt) $
+          rewrite ! 14 (λ (z : Bool). ‵ (fat full_share ty_bool l₃ 0 (vbool z))) (le-ltb t.i channels (omega (arith, l))) refl $ leaves_loop ! (local_of ! 14 refl refl) $
           exec ! C Λ En body.t-3 (at_ret En Post) $
-          asks ! fm (EmptyBook 𝓛 at_mem run) known-book to-book goes-book BK.the_row (λ d. BK'.lowered d) (BK'.lowers).val_is (λ r. r ≡ empty_book) _ (lasts book'.ended tt tt) (λ u. id⊢ 𝓤 _)
+          asks ! fm (EmptyBook 𝓛 at_mem run) known-book to_book goes_book BK.the_row (λ d. BK'.lowered d) (BK'.lowers).val_is (λ r. r ≡ empty_book) _ (lasts book'.ended tt tt) (λ u. id⊢ 𝓤 _)
           (λ P. no_more !) (λ y ey iy.
-          land ! (from ! (stop !)) (init ! 4 refl (book-typed y iy)) $
-          assigns ! (of_opd ! (local-of ! 4 refl refl)) (from ! (hop ! (look ! 18 refl) (fld ! refl (stop !)))) (store_in ! 0 (sub ! 1 refl (whole !)) (book-typed y iy)) $
-          assigns ! (agg ! (and_then ! (lit ! tt) (and_then ! (lit ! tt) (and_then ! (lit ! tt) (no_more !))))) (from ! (hop ! (look ! 18 refl) (fld ! refl (stop !)))) (store_in ! 0 (sub ! 2 refl (whole !)) (summary-typed 𝓛 no_summary no-summary)) $
-          closes-station ! tt (emptied y) (left y) b o (made_of t.rs y no_summary (t.so_far.long, t.lows) iy no-summary) $
+          land ! (from ! (stop !)) (init ! 4 refl (book_typed y iy)) $
+          assigns ! (of_opd ! (local_of ! 4 refl refl)) (from ! (hop ! (look ! 18 refl) (fld ! refl (stop !)))) (store_in ! 0 (sub ! 1 refl (whole !)) (book_typed y iy)) $
+          assigns ! (agg ! (and_then ! (lit ! tt) (and_then ! (lit ! tt) (and_then ! (lit ! tt) (no_more !))))) (from ! (hop ! (look ! 18 refl) (fld ! refl (stop !)))) (store_in ! 0 (sub ! 2 refl (whole !)) (summary_typed 𝓛 no_summary no_summary_lem)) $
+          closes_station ! tt (emptied y) (left y) b o (made_of t.rs y no_summary (t.so_far.long, t.lows) iy no_summary_lem) $
           -- [obs; the borrow; the token; _8; …; _0; …]
           sets ! (of_opd ! (unit_lit !)) 19 refl refl (tt, tt) $ returns ! (look ! 19 refl) $
           free_all (Ends (emptied y)) (holding _ ∷ holding _ ∷ holding _ ∷ holding _ ∷ none ∷ none ∷ none ∷ none ∷ holding _ ∷ []) ! $ by ! (exits (emptied y) (record { station = emptied_all t.rs y all ey })))
@@ -233,7 +233,7 @@ module _ {M : Type 1} {𝓤 : Ura M} (𝓛 : Logic 𝓤) (at_mem : Memory → SP
           all = rw l at t.so_far
 
       from-loop : (t : St) → Sq 𝓛 (At t) (runs C Λ En body.t-2 (at_ret En Post))
-      from-loop t = first ! $ blocks ! $ loops ! 𝓣 Nearer Nearer-wf At (λ t'. elim (eq-or-lt_of_le t'.upto) [ inl l ↦ over t' l | inr l ↦ more t' l ]) t
+      from-loop t = first ! $ blocks ! $ loops ! 𝓣 Nearer nearer_wf At (λ t'. elim (eq-or-lt_of_le t'.upto) [ inl l ↦ over t' l | inr l ↦ more t' l ]) t
 
     walk : ent 𝓤 (on_entry 𝓛 fresh.signature (κ, tt) (q, tt) x at) (WpFn 𝓤 H C Λ code.function (vptr b o ∷ []) Post)
     walk =
@@ -242,7 +242,7 @@ module _ {M : Type 1} {𝓤 : Ura M} (𝓛 : Logic 𝓤) (at_mem : Memory → SP
         pass1 ! (init ! 14 refl (tt, tt)) $ pass0 ! $
         -- [the locals; the token and true; what the reference owns]
         move ! (19 ∷ []) $ fsplit ! $ fsplit3 ! $ drop ! $ move ! (2 ∷ []) $ drop ! $ move ! (20 ∷ []) $ split ! $ move ! (1 ∷ []) $ drop ! $ move ! (1 ∷ 2 ∷ 0 ∷ []) $
-        opens-station ! tt h b o (λ ih.
+        opens_station ! tt h b o (λ ih.
         sets ! (of_opd ! (lit ! tt)) 16 refl refl (tt, record { fits = lit< tt }) $
         from-loop l₀ l₁ l₂ l₃ l₄ l₅ l₆ l₇ l₈ (record { i = 0; rs = h.rows; upto = omega arith; so_far = emptied_none h.rows (rows_of h _ ih).0; lows = (rows_of h _ ih).1 })))))))))))
 

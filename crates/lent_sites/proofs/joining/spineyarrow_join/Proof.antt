@@ -43,7 +43,7 @@ use Rattle.station.specs.contracts.Station as ST
 use Rattle.sites.specs.Joining.{site_joined}
 use Rattle.lent.specs.Lent.{SumsUp}
 use Rattle.lent.proofs.Item.{either_way}
-use Rattle.lent.proofs.Walk.{refTo, free_all, local-of, sets, field-of, addr-of, lends-on, lends-with}
+use Rattle.lent.proofs.Walk.{ref_to, free_all, local_of, sets, field_of_lem, KIT addr_of, lends_on, lends_with}
 use Rattle.lent.specs.contracts.sum_up as sum'
 use Rattle.lent.proofs.sum_up.Symbol as sum-def
 use Rattle.lent.proofs.sum_up.Symbol.{name as #lent·sum-up}
@@ -97,15 +97,15 @@ module _ {M : Type 1} {𝓤 : Ura M} (𝓛 : Logic 𝓤) (at_mem : Memory → SP
   abbrev Token : Item 𝓤
   Token = ‵ (flft κ' q') ⊛ ‵ ftrue
 
-  abbrev ref-at : GName → Station → MutBor Station
-  ref-at δ st = record { ref_ptr = (b, o); ghost_name = δ; now = st }
+  abbrev ref_at_lem : GName → Station → MutBor Station
+  ref_at_lem δ st = record { ref_ptr = (b, o); ghost_name = δ; now = st }
 
   -- the station's reference at a lifetime, under a name, at a station
   abbrev Ref : Lft → GName → Station → Item 𝓤
-  Ref = refTo 𝓤 ST.the_row b o
+  Ref = ref_to 𝓤 ST.the_row b o
 
   abbrev x : Bor Station × (Bor (List ℕ) × Unit {0})
-  x = (ref-at γ h, (s, tt))
+  x = (ref_at_lem γ h, (s, tt))
 
   abbrev at : Vals join'.signature (κ, (κ', tt))
   at = (vptr b o ∷ [], (v ∷ [], tt))
@@ -124,21 +124,21 @@ module _ {M : Type 1} {𝓤 : Ura M} (𝓛 : Logic 𝓤) (at_mem : Memory → SP
       owned ! u64 (Is u64) (uint_Makes 𝓛 w64) r _ (refl, fits) $ done !
 
   -- what the callees ask
-  abbrev to-joins : Lft → GName → (Joins 𝓛 at_mem run).Ghost
-  to-joins κ₁ δ = (((κ₁, (κ', tt)), (full_share, (q', tt)), tt, (ref-at δ h, (s, tt)), (vptr b o ∷ [], (v ∷ [], tt))), tt)
+  abbrev to_joins : Lft → GName → (Joins 𝓛 at_mem run).Ghost
+  to_joins κ₁ δ = (((κ₁, (κ', tt)), (full_share, (q', tt)), tt, (ref_at_lem δ h, (s, tt)), (vptr b o ∷ [], (v ∷ [], tt))), tt)
 
-  goes-joins : length s.now ≡ book_length → (κ₁ : Lft) (δ : GName)
-      → ent 𝓤 (⋆ 𝓛 (Ref κ₁ δ h ∷ ‵ (flft κ₁ full_share) ∷ (Token ⊛ ‵ Own) ∷ [])) ((Joins 𝓛 at_mem run).pre (to-joins κ₁ δ))
-  goes-joins long κ₁ δ =
+  goes_joins : length s.now ≡ book_length → (κ₁ : Lft) (δ : GName)
+      → ent 𝓤 (⋆ 𝓛 (Ref κ₁ δ h ∷ ‵ (flft κ₁ full_share) ∷ (Token ⊛ ‵ Own) ∷ [])) ((Joins 𝓛 at_mem run).pre (to_joins κ₁ δ))
+  goes_joins long κ₁ δ =
       qed 𝓛 (Ref κ₁ δ h ∷ ‵ (flft κ₁ full_share) ∷ (Token ⊛ ‵ Own) ∷ []) ∵ says ! long $ move ! (2 ∷ []) $ split ! $
       -- [the slice's token; what it owns; the reference; its token]
       nothing ! $ move ! (2 ∷ 0 ∷ []) $ fjoin ! $ move ! (2 ∷ 0 ∷ []) $ fjoin ! $ move ! (2 ∷ 1 ∷ []) $ join ! $ join ! $ done !
 
-  abbrev to-sum : Station → Lft → GName → (Sum 𝓛 at_mem run).Ghost
-  to-sum st κ₁ δ = (((κ₁, tt), (full_share, tt), tt, (ref-at δ st, (true, tt)), (vptr b o ∷ [], (vbool true ∷ [], tt))), tt)
+  abbrev to_sum : Station → Lft → GName → (Sum 𝓛 at_mem run).Ghost
+  to_sum st κ₁ δ = (((κ₁, tt), (full_share, tt), tt, (ref_at_lem δ st, (true, tt)), (vptr b o ∷ [], (vbool true ∷ [], tt))), tt)
 
-  goes-sum : (st : Station) (κ₁ : Lft) (δ : GName) → ent 𝓤 (⋆ 𝓛 (Ref κ₁ δ st ∷ ‵ (flft κ₁ full_share) ∷ [])) ((Sum 𝓛 at_mem run).pre (to-sum st κ₁ δ))
-  goes-sum st κ₁ δ =
+  goes_sum : (st : Station) (κ₁ : Lft) (δ : GName) → ent 𝓤 (⋆ 𝓛 (Ref κ₁ δ st ∷ ‵ (flft κ₁ full_share) ∷ [])) ((Sum 𝓛 at_mem run).pre (to_sum st κ₁ δ))
+  goes_sum st κ₁ δ =
       qed 𝓛 (Ref κ₁ δ st ∷ ‵ (flft κ₁ full_share) ∷ []) ∵ nothing ! $ owned ! bool (Is bool) (bool_Makes 𝓛) true _ refl $ fjoin ! $
       move ! (1 ∷ 0 ∷ []) $ fjoin ! $ nothing ! $ move ! (2 ∷ 0 ∷ []) $ join ! $ join ! $ frame ! $ done !
 
@@ -150,24 +150,24 @@ module _ {M : Type 1} {𝓤 : Ura M} (𝓛 : Logic 𝓤) (at_mem : Memory → SP
         pass1 ! (init ! 12 refl (tt, tt)) $ pass1 ! (init ! 10 refl ((shr_slice_Lawful 𝓛 (named 1) κ' u8).typed s (v ∷ []) is).0) $ pass0 ! $
         move ! (17 ∷ []) $ fsplit ! $ move ! (1 ∷ []) $ fsplit ! $ move ! (1 ∷ []) $ drop ! $ move ! (18 ∷ []) $ split ! $ move ! (3 ∷ 0 ∷ 1 ∷ 2 ∷ []) $
         -- [the reference; its token; the slice's; what the slice owns; _7; …; _0; …]: local i is at 18 - 2 · i
-        sets ! (of_opd ! (field-of ! 14 refl refl 1 refl)) 12 refl refl (tt, record { fits = is.0.1.0 }) $
-        sets ! (bin ! (local-of ! 12 refl refl) (lit ! tt) tt) 10 refl refl (tt, tt) $
-        either_way ! (local-of ! 10 refl refl)
+        sets ! (of_opd ! (field_of_lem ! 14 refl refl 1 refl)) 12 refl refl (tt, record { fits = is.0.1.0 }) $
+        sets ! (bin ! (local_of ! 12 refl refl) (lit ! tt) tt) 10 refl refl (tt, tt) $
+        either_way ! (local_of ! 10 refl refl)
         (λ t. move ! (3 ∷ []) $ drop ! $
         -- [the reference; its token; the slice's; _7; …; _0; …]: local i is at 17 - 2 · i
         sets ! (of_opd ! (lit ! tt)) 17 refl refl (tt, record { fits = lit< tt }) $
         returns_within ! Post refl (look ! 17 refl) $ free_all (Ends h) (holding _ ∷ holding _ ∷ holding _ ∷ holding _ ∷ holding _ ∷ []) ! $
         by ! (exits h 2 (refused h s.now (is_not (eqb (length s.now) book_length) t)) (lit< tt)))
         (λ t. let e = is_so (eqb (length s.now) book_length) t in
-        sets ! (addr-of ! 16 refl refl) 6 refl refl (tt, tt) $
+        sets ! (KIT addr_of ! 16 refl refl) 6 refl refl (tt, tt) $
         move ! (2 ∷ 3 ∷ []) $ join ! $ move ! (1 ∷ 2 ∷ []) $
         -- [the reference; its token; what is handed in; _7; …; _0; …]: local i is at 17 - 2 · i
-        lends-with ! fm ST.the_row κ q γ b o h (Token ⊛ ‵ Own) Token (Joins 𝓛 at_mem run) known-joins to-joins (goes-joins (eqb→eq (length s.now) book_length (holds (eqb (length s.now) book_length) t))) unit (λ _. vunit) Nothing-Tells (λ st' _. JoinsEntries h s.now st') (Unit {0} × Unit {0}) (λ _. fsep ftrue ftrue) (λ κ₁ δ u. id⊢ 𝓤 _)
-        (λ κ₁ δ i₁ i₂. and_then ! (local-of ! 4 refl refl) (and_then ! (local-of ! 12 refl refl) (no_more !))) (λ st₁ _ g₁ _.
+        lends_with ! fm ST.the_row κ q γ b o h (Token ⊛ ‵ Own) Token (Joins 𝓛 at_mem run) known-joins to_joins (goes_joins (eqb→eq (length s.now) book_length (holds (eqb (length s.now) book_length) t))) unit (λ _. vunit) Nothing-Tells (λ st' _. JoinsEntries h s.now st') (Unit {0} × Unit {0}) (λ _. fsep ftrue ftrue) (λ κ₁ δ u. id⊢ 𝓤 _)
+        (λ κ₁ δ i₁ i₂. and_then ! (local_of ! 4 refl refl) (and_then ! (local_of ! 12 refl refl) (no_more !))) (λ st₁ _ g₁ _.
         land ! (from ! (stop !)) (init ! 7 refl (tt, tt)) $
-        sets ! (addr-of ! 15 refl refl) 3 refl refl (tt, tt) $
-        lends-on ! fm ST.the_row κ q γ b o st₁ (Sum 𝓛 at_mem run) known-sum (to-sum st₁) (goes-sum st₁) unit (λ _. vunit) Nothing-Tells (λ st' _. SumsUp st₁ true st') (Unit {0} × Unit {0}) (λ _. fsep ftrue ftrue) (λ κ₁ δ u. id⊢ 𝓤 _)
-        (λ κ₁ δ i₁ i₂. and_then ! (local-of ! 3 refl refl) (and_then ! (true_lit !) (no_more !))) (λ st₂ _ g₂ _.
+        sets ! (KIT addr_of ! 15 refl refl) 3 refl refl (tt, tt) $
+        lends_on ! fm ST.the_row κ q γ b o st₁ (Sum 𝓛 at_mem run) known-sum (to_sum st₁) (goes_sum st₁) unit (λ _. vunit) Nothing-Tells (λ st' _. SumsUp st₁ true st') (Unit {0} × Unit {0}) (λ _. fsep ftrue ftrue) (λ κ₁ δ u. id⊢ 𝓤 _)
+        (λ κ₁ δ i₁ i₂. and_then ! (local_of ! 3 refl refl) (and_then ! (true_lit !) (no_more !))) (λ st₂ _ g₂ _.
         land ! (from ! (stop !)) (store ! 7 refl (tt, tt)) $
         sets ! (of_opd ! (lit ! tt)) 17 refl refl (tt, record { fits = lit< tt }) $ returns ! (look ! 17 refl) $
         free_all (Ends st₂) (holding _ ∷ holding _ ∷ holding _ ∷ holding _ ∷ holding _ ∷ holding _ ∷ holding _ ∷ holding _ ∷ []) ! $
@@ -176,19 +176,19 @@ module _ {M : Type 1} {𝓤 : Ura M} (𝓛 : Logic 𝓤) (at_mem : Memory → SP
 module _ {M : Type 1} {𝓤 : Ura M} (𝓛 : Logic 𝓤) (mem : Memory → SProp 𝓤) (run : Routine → Fun 𝓤) (𝓣 : Tables 𝓤 𝓛.H) (known-joins : Triple 𝓤 (𝓣.C #lent-sites·join-entries) (Joins 𝓛 mem run)) (known-sum : Triple 𝓤 (𝓣.C #lent·sum-up) (Sum 𝓛 mem run)) where
   open 𝓛 use {H}
 
-  join-walks : Walks 𝓛 join'.ended stayed (WpFn 𝓤 H 𝓣.C 𝓣.Λ code.function) (join'.clauses 𝓛 mem run)
-  join-walks = walked 𝓛 join'.ended stayed (join'.clauses 𝓛 mem run) (WpFn 𝓤 H 𝓣.C 𝓣.Λ code.function) (λ κs. (mut_vals, (shr_slice_vals, tt))) (λ κs. (mut_Tells (named 0) κs.0 ST.the_row, (shr_slice_Tells (named 1) κs.1.0 u8, tt)))
+  join_walks : Walks 𝓛 join'.ended stayed (WpFn 𝓤 H 𝓣.C 𝓣.Λ code.function) (join'.clauses 𝓛 mem run)
+  join_walks = walked 𝓛 join'.ended stayed (join'.clauses 𝓛 mem run) (WpFn 𝓤 H 𝓣.C 𝓣.Λ code.function) (λ κs. (mut_vals, (shr_slice_vals, tt))) (λ κs. (mut_Tells (named 0) κs.0 ST.the_row, (shr_slice_Tells (named 1) κs.1.0 u8, tt)))
       (λ κs qs bounds a _ are. via 𝓤 _ (fst∗ 𝓤 _ (emp 𝓤)) (walk 𝓛 mem run κs.0 κs.1.0 qs.0 qs.1.0 a.0.ref_ptr.0 a.0.ref_ptr.1 a.0.ghost_name a.0.now a.1.0 𝓣.C 𝓣.Λ (fm_of 𝓤 H 𝓛.laws 𝓣) known-joins known-sum are.1.0))
 
-  join-meets : Meets 𝓛 join'.signature (WpFn 𝓤 H 𝓣.C 𝓣.Λ code.function) (join'.spec 𝓛 mem run)
-  join-meets = walk_Meets 𝓛 join'.ended stayed (Goes-ref 𝓛 2 0 tt (plain (λ _. ST.the_row)), (Goes-dropped 𝓛 2 slice_slot yes (λ κs x f. refl), tt))
-      (join'.clauses 𝓛 mem run) (WpFn 𝓤 H 𝓣.C 𝓣.Λ code.function) (WpFn-mono 𝓤 H 𝓛.laws 𝓣 code.function) join-walks
+  join_meets : Meets 𝓛 join'.signature (WpFn 𝓤 H 𝓣.C 𝓣.Λ code.function) (join'.spec 𝓛 mem run)
+  join_meets = walk_Meets 𝓛 join'.ended stayed (Goes-ref 𝓛 2 0 tt (plain (λ _. ST.the_row)), (Goes-dropped 𝓛 2 slice_slot yes (λ κs x f. refl), tt))
+      (join'.clauses 𝓛 mem run) (WpFn 𝓤 H 𝓣.C 𝓣.Λ code.function) (WpFn-mono 𝓤 H 𝓛.laws 𝓣 code.function) join_walks
 
 pub spineyarrow-join-spec : {M : Type 1} → stated.statement M
 unfolding code.routine tables_of
 spineyarrow-join-spec 𝓤 𝓛 𝓜 𝓡 =
     entered 𝓤 𝓛.H (triple_of 𝓛 join'.signature (join'.spec 𝓛 𝓜.mem 𝓡.run))
     (tables 𝓤 𝓛.H 𝓜 𝓡 code.env).C (tables 𝓤 𝓛.H 𝓜 𝓡 code.env).Λ #lent-sites·spineyarrow-join code.function (code.unfolded 𝓤 𝓛.H 𝓜 𝓡)
-    (join-meets 𝓛 𝓜.mem 𝓡.run (tables_of 𝓤 𝓛.H 𝓜 (tables 𝓤 𝓛.H 𝓜 𝓡 code.env))
+    (join_meets 𝓛 𝓜.mem 𝓡.run (tables_of 𝓤 𝓛.H 𝓜 (tables 𝓤 𝓛.H 𝓜 𝓡 code.env))
     (cited 𝓤 𝓛.H (Joins 𝓛 𝓜.mem 𝓡.run) 𝓜 𝓡 code.env #lent-sites·join-entries joins-def.routine code.calls-lent-sites::joining::join-entries (joins-thm.met 𝓤 𝓛 𝓜 𝓡))
     (cited 𝓤 𝓛.H (Sum 𝓛 𝓜.mem 𝓡.run) 𝓜 𝓡 code.env #lent·sum-up sum-def.routine code.calls-lent::sum-up (sum-thm.met 𝓤 𝓛 𝓜 𝓡)))

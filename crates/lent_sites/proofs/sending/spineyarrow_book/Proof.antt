@@ -51,10 +51,10 @@ use Rattle.wire.specs.contracts.put_entries as put'
 use Rattle.wire.proofs.put_entries.Symbol as put-def
 use Rattle.wire.proofs.put_entries.Symbol.{name as #wire·put-entries}
 use Rattle.wire.proofs.put_entries.Met as put-thm
-use Rattle.lent.proofs.Borrowed.{looks-station, shuts-station, unspent}
+use Rattle.lent.proofs.Borrowed.{looks_station, shuts_station, unspent}
 use Rattle.lent.proofs.Item.{either_way}
 use Rattle.lent.proofs.Parts.{Whole, entries_of}
-use Rattle.lent.proofs.Walk.{free_all, local-of, sets, field-of, asks-with}
+use Rattle.lent.proofs.Walk.{free_all, local_of, sets, field_of_lem, asks_with}
 use Rattle.lent_sites.specs.Lent.{SendsLent, book_length}
 use Rattle.lent_sites.proofs.Loops.{is_not, is_so, holds}
 use Rattle.lent_sites.specs.contracts.sending.spineyarrow_book.Key.{name as #lent-sites·spineyarrow-book}
@@ -122,14 +122,14 @@ module _ {M : Type 1} {𝓤 : Ura M} (𝓛 : Logic 𝓤) (at_mem : Memory → SP
   abbrev Entries : Type 0
   Entries = Is (Array EN.the_row slots) es (array_val us ∷ [])
 
-  entries-are : Whole h → Entries
-  entries-are ih = (us, ((refl, (entries_of h _ ih).0), (entries_of h _ ih).1))
+  entries_are : Whole h → Entries
+  entries_are ih = (us, ((refl, (entries_of h _ ih).0), (entries_of h _ ih).1))
 
-  abbrev to-put : (Put 𝓛 at_mem run).Ghost
-  to-put = (((κ', tt), (q', tt), tt, (y, (es, tt)), (v ∷ [], (array_val us ∷ [], tt))), tt)
+  abbrev to_put : (Put 𝓛 at_mem run).Ghost
+  to_put = (((κ', tt), (q', tt), tt, (y, (es, tt)), (v ∷ [], (array_val us ∷ [], tt))), tt)
 
-  goes-put : length y.now ≡ book_length → Entries → ent 𝓤 (⋆ 𝓛 (Token ∷ ‵ Own ∷ [])) ((Put 𝓛 at_mem run).pre to-put)
-  goes-put long ie =
+  goes_put : length y.now ≡ book_length → Entries → ent 𝓤 (⋆ 𝓛 (Token ∷ ‵ Own ∷ [])) ((Put 𝓛 at_mem run).pre to_put)
+  goes_put long ie =
       qed 𝓛 (Token ∷ ‵ Own ∷ []) ∵ says ! long $ nothing ! $
       owned ! (Array EN.the_row slots) (Is (Array EN.the_row slots)) (Array-Makes 𝓛 EN.the_row (LL.makes EN.the_type EN'.the_plain 𝓛) slots) es _ ie $ fjoin ! $
       move ! (2 ∷ 0 ∷ []) $ fjoin ! $ move ! (1 ∷ 0 ∷ []) $ join ! $ done !
@@ -142,9 +142,9 @@ module _ {M : Type 1} {𝓤 : Ura M} (𝓛 : Logic 𝓤) (at_mem : Memory → SP
         pass1 ! (init ! 14 refl (tt, tt)) $ pass1 ! (init ! 12 refl ((mut_slice_Lawful 𝓛 (named 1) κ' u8).typed y (v ∷ []) is).0) $ pass0 ! $
         move ! (19 ∷ []) $ fsplit ! $ move ! (1 ∷ []) $ fsplit ! $ move ! (1 ∷ []) $ drop ! $ move ! (20 ∷ []) $ split ! $ move ! (1 ∷ 2 ∷ 3 ∷ 0 ∷ []) $
         -- [the slice's token; what it owns; the reference; its token; _8; …; _0; …]: local i is at 20 - 2 · i
-        sets ! (of_opd ! (field-of ! 16 refl refl 1 refl)) 14 refl refl (tt, record { fits = is.0.1.0 }) $
-        sets ! (bin ! (local-of ! 14 refl refl) (lit ! tt) tt) 12 refl refl (tt, tt) $
-        either_way ! (local-of ! 12 refl refl)
+        sets ! (of_opd ! (field_of_lem ! 16 refl refl 1 refl)) 14 refl refl (tt, record { fits = is.0.1.0 }) $
+        sets ! (bin ! (local_of ! 14 refl refl) (lit ! tt) tt) 12 refl refl (tt, tt) $
+        either_way ! (local_of ! 12 refl refl)
         (λ t. move ! (2 ∷ []) $ drop ! $ move ! (1 ∷ []) $ use1 𝓛 (‵ (finally u8 y.ghost_name y.now)) (unspent 𝓛 (named 1) κ' u8 y (v ∷ [])) $
         -- [the slice's last; its token; the reference's; _8; …; _0; …]: local i is at 19 - 2 · i
         sets ! (of_opd ! (lit ! tt)) 19 refl refl (tt, record { fits = lit< tt }) $
@@ -152,17 +152,17 @@ module _ {M : Type 1} {𝓤 : Ura M} (𝓛 : Logic 𝓤) (at_mem : Memory → SP
         by ! (exits y.now 12 (refused h y.now (is_not (eqb (length y.now) book_length) t)) refl (lit< tt)))
         (λ t.
         sets ! (addr ! (from ! (fld ! refl (hop ! (look_in ! 16 (sub ! 0 refl (whole !))) (stop !))))) 8 refl refl (tt, tt) $
-        sets ! (agg ! (and_then ! (local-of ! 8 refl refl) (and_then ! (field-of ! 16 refl refl 1 refl) (no_more !)))) 6 refl refl (tt, (tt, (record { fits = is.0.1.0 }, tt))) $
+        sets ! (agg ! (and_then ! (local_of ! 8 refl refl) (and_then ! (field_of_lem ! 16 refl refl 1 refl) (no_more !)))) 6 refl refl (tt, (tt, (record { fits = is.0.1.0 }, tt))) $
         move ! (2 ∷ 3 ∷ []) $
         -- [the reference; its token; the slice's; what the slice owns; _8; …; _0; …]
-        looks-station ! tt h b o γ (λ q₁ ih.
+        looks_station ! tt h b o γ (λ q₁ ih.
         -- [a share of the station's cell; what shuts it; the slice's token; what it owns; _8; …; _0; …]: local i is at 20 - 2 · i
         sets ! (of_opd ! (load ! (from ! (hop ! (look ! 18 refl) (fld ! refl (fld ! refl (stop !))))) (look_in ! 0 (sub ! 0 refl (sub ! 1 refl (whole !)))))) 4 refl refl
-        ((Array-Lawful 𝓛 EN.the_row (LL.lawful EN.the_type EN'.the_laws 𝓛) slots).typed es _ (entries-are ih)).0 $
-        shuts-station ! tt q₁ h b o ih $ move ! (1 ∷ 2 ∷ []) $
+        ((Array-Lawful 𝓛 EN.the_row (LL.lawful EN.the_type EN'.the_laws 𝓛) slots).typed es _ (entries_are ih)).0 $
+        shuts_station ! tt q₁ h b o ih $ move ! (1 ∷ 2 ∷ []) $
         -- [the slice's token; what it owns; the token; _8; …; _0; …]
-        asks-with ! fm (Put 𝓛 at_mem run) known-put to-put Token (‵ Own) (goes-put (eqb→eq (length y.now) book_length (holds (eqb (length y.now) book_length) t)) (entries-are ih)) unit (λ _. vunit) Nothing-Tells (List ℕ × (Unit {0} × Unit {0})) (λ _ zs. zs.0 ≡ entries_bytes es) (lasts put'.ended (κ', tt) (y, (es, tt))) (λ u. id⊢ 𝓤 _)
-        (λ S. and_then ! (local-of ! 4 refl refl) (and_then ! (local-of ! 2 refl refl) (no_more !))) (λ _ zs g _.
+        asks_with ! fm (Put 𝓛 at_mem run) known-put to_put Token (‵ Own) (goes_put (eqb→eq (length y.now) book_length (holds (eqb (length y.now) book_length) t)) (entries_are ih)) unit (λ _. vunit) Nothing-Tells (List ℕ × (Unit {0} × Unit {0})) (λ _ zs. zs.0 ≡ entries_bytes es) (lasts put'.ended (κ', tt) (y, (es, tt))) (λ u. id⊢ 𝓤 _)
+        (λ S. and_then ! (local_of ! 4 refl refl) (and_then ! (local_of ! 2 refl refl) (no_more !))) (λ _ zs g _.
         -- [the slice's token; what is said of its last; the token; _8; …; _0; …]: local i is at 19 - 2 · i
         land ! (from ! (stop !)) (init ! 9 refl (tt, tt)) $
         move ! (1 ∷ []) $ fsplit ! $ fsplit ! $ move ! (1 ∷ []) $ feq_l ! (λ l. move ! (1 ∷ []) $ drop ! $
@@ -173,18 +173,18 @@ module _ {M : Type 1} {𝓤 : Ura M} (𝓛 : Logic 𝓤) (at_mem : Memory → SP
 module _ {M : Type 1} {𝓤 : Ura M} (𝓛 : Logic 𝓤) (mem : Memory → SProp 𝓤) (run : Routine → Fun 𝓤) (𝓣 : Tables 𝓤 𝓛.H) (known-put : Triple 𝓤 (𝓣.C #wire·put-entries) (Put 𝓛 mem run)) where
   open 𝓛 use {H}
 
-  sends-walks : Walks 𝓛 sends.ended stayed (WpFn 𝓤 H 𝓣.C 𝓣.Λ code.function) (sends.clauses 𝓛 mem run)
-  sends-walks = walked 𝓛 sends.ended stayed (sends.clauses 𝓛 mem run) (WpFn 𝓤 H 𝓣.C 𝓣.Λ code.function) (λ κs. (shr_vals, (mut_slice_vals, tt))) (λ κs. (shr_Tells (named 0) κs.0 ST.the_row, (mut_slice_Tells (named 1) κs.1.0 u8, tt)))
+  sends_walks : Walks 𝓛 sends.ended stayed (WpFn 𝓤 H 𝓣.C 𝓣.Λ code.function) (sends.clauses 𝓛 mem run)
+  sends_walks = walked 𝓛 sends.ended stayed (sends.clauses 𝓛 mem run) (WpFn 𝓤 H 𝓣.C 𝓣.Λ code.function) (λ κs. (shr_vals, (mut_slice_vals, tt))) (λ κs. (shr_Tells (named 0) κs.0 ST.the_row, (mut_slice_Tells (named 1) κs.1.0 u8, tt)))
       (λ κs qs bounds a _ are. via 𝓤 _ (fst∗ 𝓤 _ (emp 𝓤)) (walk 𝓛 mem run κs.0 κs.1.0 qs.0 qs.1.0 a.0.ref_ptr.0 a.0.ref_ptr.1 a.0.ghost_name a.0.now a.1.0 𝓣.C 𝓣.Λ (fm_of 𝓤 H 𝓛.laws 𝓣) known-put are.1.0))
 
-  sends-meets : Meets 𝓛 sends.signature (WpFn 𝓤 H 𝓣.C 𝓣.Λ code.function) (sends.spec 𝓛 mem run)
-  sends-meets = walk_Meets 𝓛 sends.ended stayed (Goes-dropped 𝓛 2 ref_slot yes (λ κs x f. refl), (Goes-gave_slice 𝓛 2 1 tt (plain (λ _. u8)), tt))
-      (sends.clauses 𝓛 mem run) (WpFn 𝓤 H 𝓣.C 𝓣.Λ code.function) (WpFn-mono 𝓤 H 𝓛.laws 𝓣 code.function) sends-walks
+  sends_meets : Meets 𝓛 sends.signature (WpFn 𝓤 H 𝓣.C 𝓣.Λ code.function) (sends.spec 𝓛 mem run)
+  sends_meets = walk_Meets 𝓛 sends.ended stayed (Goes-dropped 𝓛 2 ref_slot yes (λ κs x f. refl), (Goes-gave_slice 𝓛 2 1 tt (plain (λ _. u8)), tt))
+      (sends.clauses 𝓛 mem run) (WpFn 𝓤 H 𝓣.C 𝓣.Λ code.function) (WpFn-mono 𝓤 H 𝓛.laws 𝓣 code.function) sends_walks
 
 pub spineyarrow-book-spec : {M : Type 1} → stated.statement M
 unfolding code.routine tables_of
 spineyarrow-book-spec 𝓤 𝓛 𝓜 𝓡 =
     entered 𝓤 𝓛.H (triple_of 𝓛 sends.signature (sends.spec 𝓛 𝓜.mem 𝓡.run))
     (tables 𝓤 𝓛.H 𝓜 𝓡 code.env).C (tables 𝓤 𝓛.H 𝓜 𝓡 code.env).Λ #lent-sites·spineyarrow-book code.function (code.unfolded 𝓤 𝓛.H 𝓜 𝓡)
-    (sends-meets 𝓛 𝓜.mem 𝓡.run (tables_of 𝓤 𝓛.H 𝓜 (tables 𝓤 𝓛.H 𝓜 𝓡 code.env))
+    (sends_meets 𝓛 𝓜.mem 𝓡.run (tables_of 𝓤 𝓛.H 𝓜 (tables 𝓤 𝓛.H 𝓜 𝓡 code.env))
     (cited 𝓤 𝓛.H (Put 𝓛 𝓜.mem 𝓡.run) 𝓜 𝓡 code.env #wire·put-entries put-def.routine code.calls-wire::put-entries (put-thm.met 𝓤 𝓛 𝓜 𝓡)))

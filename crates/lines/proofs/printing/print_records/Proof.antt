@@ -4,7 +4,7 @@ use Prim.Native.Nat.{◌-◌, ◌≤◌}
 use native.Mathlib.Omega.{arith}
 use lib.ListN.{length-take, length-drop}
 use Rattle.digits.proofs.Pieces.{puts_room}
-use Rattle.lines.proofs.Block.{SoFar, none_yet, one_more_lem, all-printed}
+use Rattle.lines.proofs.Block.{SoFar, none_yet, one_more_lem, all_printed}
 use borrow.Author.Rules.{rules}
 use Rattle.lines.proofs.printing.print_records.Statement.{statement}
 use Rattle.lines.proofs.printing.print_records.Tie as tie
@@ -77,7 +77,7 @@ returns c =
     let t = p.before.before in
     let l = t.before.loop in
     let s = l.invariant.0 in
-    all-printed _ s (omega (arith, l.invariant.1, t.loop-test.false)) p.put-left-over.ensures.0
+    all_printed _ s (omega (arith, l.invariant.1, t.loop-test.false)) p.put-left-over.ensures.0
     (omega (arith, p.put-left-over.ensures.1, s.bound, l.invariant.1, t.before.before.before.before.requires))
 
 pub print-records-spec : {M : Type 1} → statement M

@@ -1,5 +1,5 @@
 -- `records::list_record` meets its contract: what the offer answers, and what is seen of the string (`Tells`). Assumes nothing.
-use Rattle.lines.proofs.Tells.{lists-by}
+use Rattle.lines.proofs.Tells.{lists_by}
 use borrow.Author.Rules.{rules}
 use Rattle.lines.proofs.records.list_record.Statement.{statement}
 use Rattle.lines.proofs.records.list_record.Tie as tie
@@ -28,7 +28,7 @@ returns c =
     let s = o.before in
     let e = s.before in
     let a = e.before.before.before in
-    lists-by a.args.st a.args.rec.now _ _ _ _ _ _ e.before.channel-in.ensures e.epoch-in.ensures s.symbols-in.ensures
+    lists_by a.args.st a.args.rec.now _ _ _ _ _ _ e.before.channel-in.ensures e.epoch-in.ensures s.symbols-in.ensures
     o.offer.ensures c.number-told.ensures c.before.before.seen_by.ensures
 
 pub list-record-spec : {M : Type 1} → statement M

@@ -1,7 +1,7 @@
 -- `asking::ask` meets its contract, by what the call that writes a record answered (`Telling`). Assumes nothing.
 use mathlib.Core.Path.{refl}
 use native.Mathlib.Omega.{arith}
-use Rattle.navfile.proofs.Telling.{satellite-most, record-long, tells-ask, tells-refused, tells-no-lines}
+use Rattle.navfile.proofs.Telling.{satellite_most, record_long, tells_ask, tells_refused, tells_no_lines}
 use borrow.Author.Rules.{rules}
 use Rattle.navfile.proofs.asking.ask.Statement.{statement}
 use Rattle.navfile.proofs.asking.ask.Tie as tie
@@ -23,8 +23,8 @@ put-new-requires c κs =
     let k = c.before.before.before in
     let w = k.before.before.before in
     let a = w.before.before.before.before in
-    let n = satellite-most a.args.card a.args.office a.args.channel _ _ a.args.text.now a.args.at _ refl w.write-record.ensures _ _ k.answer.given.1 in
-    let l = record-long a.args.card a.args.office a.args.channel _ _ a.args.text.now a.args.at _ refl w.write-record.ensures _ _ k.answer.given.1 in
+    let n = satellite_most a.args.card a.args.office a.args.channel _ _ a.args.text.now a.args.at _ refl w.write-record.ensures _ _ k.answer.given.1 in
+    let l = record_long a.args.card a.args.office a.args.channel _ _ a.args.text.now a.args.at _ refl w.write-record.ensures _ _ k.answer.given.1 in
     (omega arith, omega (arith, a.requires))
 
 enum_told : tie.Need-enum-told
@@ -42,19 +42,19 @@ returns c =
     let k = p.before.before.before.before in
     let w = k.before.before.before in
     let a = w.before.before.before.before in
-    tells-ask a.args.card a.args.office a.args.channel _ _ a.args.text.now a.args.at _ refl w.write-record.ensures _ _ k.answer.given.1 _ _ p.put-new.ensures
+    tells_ask a.args.card a.args.office a.args.channel _ _ a.args.text.now a.args.at _ refl w.write-record.ensures _ _ k.answer.given.1 _ _ p.put-new.ensures
 
 returns-2 : tie.Need-returns-2
 returns-2 c =
     let w = c.before.before.before in
     let a = w.before.before.before.before in
-    tells-refused a.args.card a.args.office a.args.channel _ _ a.args.text.now a.args.at _ refl w.write-record.ensures c.enum_told.given.1
+    tells_refused a.args.card a.args.office a.args.channel _ _ a.args.text.now a.args.at _ refl w.write-record.ensures c.enum_told.given.1
 
 returns-3 : tie.Need-returns-3
 returns-3 c =
     let w = c.before.before.before in
     let a = w.before.before.before.before in
-    tells-no-lines a.args.card a.args.office a.args.channel _ _ a.args.text.now a.args.at _ refl w.write-record.ensures c.enum-told2.given.1
+    tells_no_lines a.args.card a.args.office a.args.channel _ _ a.args.text.now a.args.at _ refl w.write-record.ensures c.enum-told2.given.1
 
 pub ask-spec : {M : Type 1} → statement M
 ask-spec =

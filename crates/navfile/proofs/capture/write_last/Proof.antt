@@ -2,7 +2,7 @@
 use Prim.Native.Nat.{◌-◌, ◌≤◌}
 use native.Mathlib.Omega.{arith}
 use Rattle.digits.proofs.Pieces.{puts_room}
-use Rattle.navfile.proofs.Telling.{Uptill, no_channel, channel-more, all_asked}
+use Rattle.navfile.proofs.Telling.{Uptill, no_channel, channel_more, all_asked}
 use borrow.Author.Rules.{rules}
 use Rattle.navfile.proofs.capture.write_last.Statement.{statement}
 use Rattle.navfile.proofs.capture.write_last.Tie as tie
@@ -32,7 +32,7 @@ loop-again : tie.Need-loop-preserved invariant-loop decreases-loop
 loop-again c =
     let p = c.before.before.before in
     let t = p.before.before in
-    (channel-more _ t.before.loop.invariant.0 p.ask.ensures, omega (arith, t.loop-test.true))
+    (channel_more _ t.before.loop.invariant.0 p.ask.ensures, omega (arith, t.loop-test.true))
 
 same_length : tie.Need-same-length invariant-loop decreases-loop
 same_length c =

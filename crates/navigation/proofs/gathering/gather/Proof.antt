@@ -10,8 +10,8 @@ use Rattle.navigation_queries.specs.Five.{FindsFive}
 use Rattle.navigation_queries.specs.Carrier.{FindsCarrier}
 use Rattle.navigation.specs.declared.Gathered.TheVariants.{All}
 use Rattle.navigation.specs.Gathers.{Gathers}
-use Rattle.navigation.proofs.Read.{byte_fits, byte-is}
-use Rattle.navigation.proofs.Found.{record-refused, five-refused, n-read, no_entry, all_there}
+use Rattle.navigation.proofs.Read.{byte_fits, byte_is}
+use Rattle.navigation.proofs.Found.{record_refused, five_refused, n_read, no_entry, all_there}
 use borrow.Author.Rules.{rules}
 use Rattle.navigation.proofs.gathering.gather.Statement.{statement}
 use Rattle.navigation.proofs.gathering.gather.Tie as tie
@@ -39,7 +39,7 @@ cast-carrier-of c =
     let e = c.before.before.before.before.before.before.before.before.before in
     let a = e.before.args in
     let found = subst (FindsRecord a.st a.card a.channel) c.before.before.before.before.before.before.before.found2.given.1 e.immediate_of_lem.ensures in
-    byte_fits _ (n-read a.st a.card a.channel _ _ found) (lit≤ tt)
+    byte_fits _ (n_read a.st a.card a.channel _ _ found) (lit≤ tt)
 
 carrier-of-requires : tie.Need-carrier-of-requires
 carrier-of-requires c κs = search rules
@@ -54,20 +54,20 @@ returns : tie.Need-returns
 returns c =
     let e = c.before.before.before in
     let a = e.before.args in
-    record-refused a.st a.card a.channel _ (subst (FindsRecord a.st a.card a.channel) c.before.found.given.1 e.immediate_of_lem.ensures)
+    record_refused a.st a.card a.channel _ (subst (FindsRecord a.st a.card a.channel) c.before.found.given.1 e.immediate_of_lem.ensures)
 
 returns-2 : tie.Need-returns-2
 returns-2 c =
     let e = c.before.before.before in
     let a = c.before.before.before.before.before.before.before.before.args in
-    five-refused a.st a.card a.channel _ (subst (FindsFive a.st a.card a.channel) c.before.five.given.1 e.five-of.ensures)
+    five_refused a.st a.card a.channel _ (subst (FindsFive a.st a.card a.channel) c.before.five.given.1 e.five-of.ensures)
 
 returns-3 : tie.Need-returns-3
 returns-3 c =
     let e = c.before.before.before.before.before.before.before.before.before.before.before.before in
     let a = e.before.args in
     let found = subst (FindsRecord a.st a.card a.channel) c.before.before.before.before.before.before.before.before.before.before.found2.given.1 e.immediate_of_lem.ensures in
-    let n = byte-is _ (n-read a.st a.card a.channel _ _ found) (lit≤ tt) in
+    let n = byte_is _ (n_read a.st a.card a.channel _ _ found) (lit≤ tt) in
     no_entry a.st a.card a.channel _ _ found _ n _ (subst (FindsCarrier a.st a.card _) c.enum_told.given.1 c.before.before.carrier-of.ensures)
 
 returns-4 : tie.Need-returns-4
@@ -76,7 +76,7 @@ returns-4 c =
     let a = e.before.args in
     let found = subst (FindsRecord a.st a.card a.channel) c.before.before.before.before.before.before.before.before.before.before.before.before.found2.given.1 e.immediate_of_lem.ensures in
     let five = subst (FindsFive a.st a.card a.channel) c.before.before.before.before.before.before.before.before.five2.given.1 c.before.before.before.before.before.before.before.before.before.before.five-of.ensures in
-    let n = byte-is _ (n-read a.st a.card a.channel _ _ found) (lit≤ tt) in
+    let n = byte_is _ (n_read a.st a.card a.channel _ _ found) (lit≤ tt) in
     let carrier = subst (FindsCarrier a.st a.card _) c.before.before.carrier.given.1 c.before.before.before.before.carrier-of.ensures in
     let string5 = c.before.before.before.before.before.before.before.before.five2.given.0.0 in
     let h = c.before.before.carrier.given.0.0 in

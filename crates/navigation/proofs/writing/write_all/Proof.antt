@@ -15,8 +15,8 @@ use Rattle.shows.proofs.Shows.{is_so, is_not}
 use Rattle.rinex.specs.Record.{record_text}
 use Rattle.rinex.proofs.Naturals.{cast_fits, same, in_four_years}
 use Rattle.navigation.specs.Writes.{is_within, quarter_of}
-use Rattle.navigation.proofs.Read.{byte_fits, byte-is}
-use Rattle.navigation.proofs.Answered.{writable, day-refused, years-refused, lines-refused, all-written}
+use Rattle.navigation.proofs.Read.{byte_fits, byte_is}
+use Rattle.navigation.proofs.Answered.{writable, day_refused, years_refused, lines_refused, all_written_lem}
 use Rattle.navigation.proofs.writing.write_all.Statement.{statement}
 use Rattle.navigation.proofs.writing.write_all.Tie as tie
 
@@ -51,7 +51,7 @@ is-within-requires c κs = search rules
 returns : tie.Need-returns
 returns c =
     let s = c.before.before.before.before.before in
-    day-refused s.args.words s.args.n4 s.args.carrier _ (is_not (c.before.is_Within.ensures ∙ ap (is_within 1 1461) (nt_same s)) c.if1.true)
+    day_refused s.args.words s.args.n4 s.args.carrier _ (is_not (c.before.is_Within.ensures ∙ ap (is_within 1 1461) (nt_same s)) c.if1.true)
 
 cast-years : tie.Need-overflow-cast-years
 cast-years c = let s = start1 c in cast_fits s.args.n4 s.pre.four_years (lit≤ tt)
@@ -63,13 +63,13 @@ returns-2 : tie.Need-returns-2
 returns-2 c =
     let d = c.before.before in
     let s = start1 d in
-    years-refused s.args.words s.args.n4 s.args.carrier _ (day_in d) (is_not (c.before.is-within2.ensures ∙ ap (is_within 1 21) (n4_same s)) c.if2.true)
+    years_refused s.args.words s.args.n4 s.args.carrier _ (day_in d) (is_not (c.before.is-within2.ensures ∙ ap (is_within 1 21) (n4_same s)) c.if2.true)
 
 returns-3 : tie.Need-returns-3
 returns-3 c =
     let d = c.before in
     let s = start2 d in
-    lines-refused s.args.words s.args.n4 s.args.carrier _ (day_in d.before.before) (years_in d) (ne_eqb _ _ c.if3.true)
+    lines_refused s.args.words s.args.n4 s.args.carrier _ (day_in d.before.before) (years_in d) (ne_eqb _ _ c.if3.true)
 
 record-text-requires : tie.Need-record-text-requires
 record-text-requires c κs =
@@ -100,7 +100,7 @@ returns-4 c =
     let s = start2 d in
     let w = s.args.words in
     let tb = same w.two.tb s.pre.interval (lit≤ tt) in
-    let n = byte-is w.four.n s.pre.satellite (lit≤ tt) in
+    let n = byte_is w.four.n s.pre.satellite (lit≤ tt) in
     let quarter =
     c.before.before.quarter-of.ensures ∙ ap₂ (λ (x y : ℕ). quarter_of x y (nat_abs (z32 w.two.tb))) (n4_same s) (nt_same s)
     ∙ ap (quarter_of (nat_abs s.args.n4) (nat_abs w.four.nt)) tb
@@ -108,7 +108,7 @@ returns-4 c =
     let text =
     c.before.before.before.before.before.before.before.record-text.ensures ∙ ap₂ (record_text w) (to_z-of_z w32 s.args.n4 s.fits.n4) (to_z-of_z w32 s.args.carrier s.fits.carrier)
     in
-    all-written w s.args.n4 s.args.carrier _ (day_in d.before.before) (years_in d) (eq-eqb _ _ c.before.before.before.before.before.before.before.before.before.if3.false) _ _ _
+    all_written_lem w s.args.n4 s.args.carrier _ (day_in d.before.before) (years_in d) (eq-eqb _ _ c.before.before.before.before.before.before.before.before.before.if3.false) _ _ _
     (ap₂ (λ (x y : ℕ). x ∷ y ∷ []) n quarter) text
 
 pub write-all-spec : {M : Type 1} → statement M

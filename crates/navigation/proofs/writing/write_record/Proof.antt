@@ -7,7 +7,7 @@ use mir.Val.{to_z, of_z}
 use Rattle.navigation.specs.declared.Gathered.TheVariants.{All}
 use Rattle.navigation.specs.Gathers.{Gathers}
 use Rattle.navigation.proofs.Found.{gathered_read}
-use Rattle.navigation.proofs.Answered.{writes-refused, writes-gathered}
+use Rattle.navigation.proofs.Answered.{writes_refused, writes_gathered}
 use Rattle.navigation.proofs.writing.write_record.Statement.{statement}
 use Rattle.navigation.proofs.writing.write_record.Tie as tie
 
@@ -32,7 +32,7 @@ returns : tie.Need-returns
 returns c =
     let e = c.before.before.before in
     let a = e.before.before.args in
-    writes-refused a.st a.card a.channel _ _ (subst (Gathers a.st a.card a.channel) c.before.gathered.given.1 e.gather.ensures)
+    writes_refused a.st a.card a.channel _ _ (subst (Gathers a.st a.card a.channel) c.before.gathered.given.1 e.gather.ensures)
 
 same_length : tie.Need-same-length
 same_length c = search rules
@@ -45,7 +45,7 @@ returns-2 c =
     let a = e.before.before.args in
     let n4 : to_z w32 (of_z w32 g.0.1.0) ≡ g.0.1.0 = search rules in
     let h : to_z w32 (of_z w32 g.0.1.1.0) ≡ g.0.1.1.0 = search rules in
-    writes-gathered a.st a.card a.channel _ _ _ _ _ _ (subst (Gathers a.st a.card a.channel) g.1 e.gather.ensures) (rw (n4, h) at w.write-all.ensures)
+    writes_gathered a.st a.card a.channel _ _ _ _ _ _ (subst (Gathers a.st a.card a.channel) g.1 e.gather.ensures) (rw (n4, h) at w.write-all.ensures)
 
 pub write-record-spec : {M : Type 1} → statement M
 write-record-spec =

@@ -1,19 +1,19 @@
 -- `coding::from_relative` meets its contract, return by return.
 -- Assumes nothing.
 use Rattle.strings.proofs.Shape.{shaped, shape_told}
-use Rattle.relative.proofs.RelativeCode.{read-no-room, read-no-shape, reads}
+use Rattle.relative.proofs.RelativeCode.{read_no_room, read_no_shape, reads}
 use borrow.Author.Rules.{rules}
 use Rattle.relative.proofs.coding.from_relative.Statement.{statement}
 use Rattle.relative.proofs.coding.from_relative.Tie as tie
 
 returns : tie.Need-returns
-returns c = read-no-room _ _ c.if1.true
+returns c = read_no_room _ _ c.if1.true
 
 well-shaped-requires : tie.Need-well-shaped-requires
 well-shaped-requires c κs = search rules
 
 returns-2 : tie.Need-returns-2
-returns-2 c = read-no-shape _ _ c.before.before.if1.false (shape_told c.before.well-shaped.ensures c.if2.true)
+returns-2 c = read_no_shape _ _ c.before.before.if1.false (shape_told c.before.well-shaped.ensures c.if2.true)
 
 read-symbols-requires : tie.Need-read-symbols-requires
 read-symbols-requires c κs = (shape_told c.before.before.well-shaped.ensures c.before.if2.false, c.before.before.before.if1.false)

@@ -10,7 +10,7 @@ use borrow.Author.Rules.{rules}
 use Rattle.strings.specs.Number.{bit_of, number_of, padding_of, flip, bytes_of_string}
 use Rattle.strings.proofs.Value.{Bytes, number_lt, bytes_of_string_lem}
 use Rattle.strings.proofs.Shape.{shaped}
-use Rattle.relative.proofs.Symbols.{part_sent, sent_none, sent_all, sends-one, sends-zero}
+use Rattle.relative.proofs.Symbols.{part_sent, sent_none, sent_all, sends_one, sends_zero}
 use Rattle.relative.proofs.coding.send_symbols.Statement.{statement}
 use Rattle.relative.proofs.coding.send_symbols.Tie as tie
 
@@ -51,12 +51,12 @@ loop-again c =
     (λ w. rw w.5 (
       (omega arith, w.2.kept.0 ∙ i.0.1),
       (
-        w.2.ensures.0 ∙ ap (λ (x : ℕ). flip x k) i.1.0 ∙ sends-one n k (omega arith) i.0.0 (b ∙ w.0.taken),
+        w.2.ensures.0 ∙ ap (λ (x : ℕ). flip x k) i.1.0 ∙ sends_one n k (omega arith) i.0.0 (b ∙ w.0.taken),
         (w.2.ensures.1 ∙ i.1.1.0, λ j. (w.4.given j).fits),
       ),
     ))
     (λ w. rw w.1
-    ((omega arith, i.0.1), (i.1.0 ∙ sends-zero n k (omega arith) i.0.0 (λ q. w.0.left (sym b ∙ q)), i.1.1)))
+    ((omega arith, i.0.1), (i.1.0 ∙ sends_zero n k (omega arith) i.0.0 (λ q. w.0.left (sym b ∙ q)), i.1.1)))
     c.if1.branch
 
 same_length : tie.Need-same-length invariant-loop decreases-loop

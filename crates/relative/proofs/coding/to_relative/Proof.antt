@@ -9,7 +9,7 @@ use lib.ListN.{length, take, drop}
 use Rattle.strings.specs.Number.{misshapen}
 use Rattle.strings.proofs.Value.{copied}
 use Rattle.strings.proofs.Shape.{shaped, shape_told}
-use Rattle.relative.proofs.RelativeCode.{write-no-room, write-no-shape, last_refuses, last-takes}
+use Rattle.relative.proofs.RelativeCode.{write_no_room, write_no_shape, last_refuses, last_takes}
 use borrow.Author.Rules.{rules}
 use borrow.Author.Tests.{eq-eqb, ne_eqb}
 use Rattle.relative.proofs.coding.to_relative.Statement.{statement}
@@ -32,13 +32,13 @@ copy_ok : (d : tie.Else2) (l : List ℕ) → l ≡ take (length (S d)) (S d) ++ 
 copy_ok d l = copied (S d) (O d) l (room_ok d ∙ sym (shaped (S d) (shape_ok d)).0)
 
 returns : tie.Need-returns
-returns c = write-no-room _ _ c.if1.true
+returns c = write_no_room _ _ c.if1.true
 
 well-shaped-requires : tie.Need-well-shaped-requires
 well-shaped-requires c κs = search rules
 
 returns-2 : tie.Need-returns-2
-returns-2 c = write-no-shape _ _ c.before.before.if1.false (shape_told c.before.well-shaped.ensures c.if2.true)
+returns-2 c = write_no_shape _ _ c.before.before.if1.false (shape_told c.before.well-shaped.ensures c.if2.true)
 
 bit-requires : tie.Need-bit-requires
 bit-requires c κs = ((shaped _ (shape_ok c)).0, search rules)
@@ -65,7 +65,7 @@ returns-4 c =
     let d = t.before.before in
     let e = copy_ok d _ c.before.before.before.before.before.before.copy.ensures.1 in
     rw (c.before.before.send-symbols.ensures, e)
-    (last-takes (S d) (O d) (room_ok d) (shape_ok d) (ne_eqb _ _ (λ q. t.if3.false (t.before.bit.ensures ∙ q))))
+    (last_takes (S d) (O d) (room_ok d) (shape_ok d) (ne_eqb _ _ (λ q. t.if3.false (t.before.bit.ensures ∙ q))))
 
 pub to-relative-spec : {M : Type 1} → statement M
 to-relative-spec =

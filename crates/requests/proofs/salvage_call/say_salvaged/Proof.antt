@@ -1,6 +1,6 @@
 -- `salvage_call::say_salvaged` meets its contract: what a salvage wrote lies within the output and the list. Assumes nothing.
 use Rattle.std.proofs.Common.{◌*◌, ◌≤◌, length, arith, rules}
-use Rattle.salvage.proofs.Ends.{left_in}
+use Rattle.salvage.proofs.Ends.{left_in_lem}
 use Rattle.salvage.proofs.Parts.{within}
 use Rattle.requests.proofs.salvage_call.say_salvaged.Statement.{statement}
 use Rattle.requests.proofs.salvage_call.say_salvaged.Tie as tie
@@ -14,7 +14,7 @@ fits d =
 lies : (d : tie.After-salvage) → (d.salvage.result.written ≤ length d.salvage.new.1.0) × (2 * d.salvage.result.stretches ≤ length d.salvage.new.1.1.0)
 lies d =
     let args = d.before.before.before.before.before.before.args in
-    left_in args.file.now args.out.now args.list.now _ _ _ d.salvage.ensures
+    left_in_lem args.file.now args.out.now args.list.now _ _ _ d.salvage.ensures
 
 salvage-requires : tie.Need-salvage-requires
 salvage-requires c κs = search rules

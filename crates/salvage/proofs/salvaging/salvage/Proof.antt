@@ -7,7 +7,7 @@ use mathlib.Core.Path.{◌∙◌, sym}
 use lib.ListN.{length}
 use Rattle.salvage.proofs.Places.{next_in, not_zero}
 use Rattle.salvage.proofs.Items.{field_in}
-use Rattle.salvage.proofs.State.{State, begin, keep, skip, no-stretch, no_room_lem, all_told}
+use Rattle.salvage.proofs.State.{State, begin, keep, skip, no_stretch, no_room_lem, all_told}
 use Rattle.salvage.proofs.salvaging.salvage.Statement.{statement}
 use Rattle.salvage.proofs.salvaging.salvage.Tie as tie
 
@@ -32,7 +32,7 @@ same-length-2 c = c.before.before.before.before.loop.invariant.list_len
 returns : tie.Need-returns invariant-loop decreases-loop
 returns c =
     let l = c.before.before.before in
-    no-stretch l.before.loop.invariant l.loop-test.true (sym c.before.before.size-at.ensures ∙ c.before.if1.true) c.if2.true
+    no_stretch l.before.loop.invariant l.loop-test.true (sym c.before.before.size-at.ensures ∙ c.before.if1.true) c.if2.true
 
 next-place-requires : tie.Need-next-place-requires invariant-loop decreases-loop
 next-place-requires c κs = c.before.before.before.loop-test.true

@@ -6,7 +6,7 @@ use mathlib.Core.Path.{◌≡◌, ◌∙◌, ap, sym}
 use lib.Dec.{eqb}
 use lib.ListN.{length}
 use Rattle.fields.specs.Fields.{size_at}
-use Rattle.salvage.proofs.Places.{resumes-none, resumes-end, resumes-next}
+use Rattle.salvage.proofs.Places.{resumes_none, resumes_end, resumes_next}
 use Rattle.salvage.proofs.Items.{field_in}
 use borrow.Author.Rules.{rules}
 use Rattle.salvage.proofs.searching.goes_on.Statement.{statement}
@@ -25,7 +25,7 @@ size-at-requires c κs = search rules
 returns : tie.Need-returns
 returns c =
     let p = c.before.before.before in
-    resumes-none p.args.s.now p.args.at (sym c.before.size-at.ensures ∙ c.if1.true)
+    resumes_none p.args.s.now p.args.at (sym c.before.size-at.ensures ∙ c.if1.true)
 
 add-e : tie.Need-overflow-add-e
 add-e c = omega (arith, inside c, c.before.before.before.well-formed)
@@ -34,7 +34,7 @@ returns-2 : tie.Need-returns-2
 returns-2 c =
     let d = c.before in
     let p = d.before.before.before in
-    resumes-end p.args.s.now p.args.at (some d) (ap (λ (x : ℕ). p.args.at + x) (sym d.before.size-at.ensures) ∙ c.if2.true)
+    resumes_end p.args.s.now p.args.at (some d) (ap (λ (x : ℕ). p.args.at + x) (sym d.before.size-at.ensures) ∙ c.if2.true)
 
 size-at-requires-2 : tie.Need-size-at-requires-2
 size-at-requires-2 c κs = search rules
@@ -46,7 +46,7 @@ returns-3 c =
     let s = p.args.s.now in
     let e = d.before.size-at.ensures in
     ap (λ (x : ℕ). not (eqb x 0)) (c.size-at2.ensures ∙ ap (λ (x : ℕ). size_at s (p.args.at + x)) e)
-    ∙ resumes-next s p.args.at (some d) (omega (arith, inside d, e, c.before.if2.false))
+    ∙ resumes_next s p.args.at (some d) (omega (arith, inside d, e, c.before.if2.false))
 
 pub goes-on-spec : {M : Type 1} → statement M
 goes-on-spec =

@@ -7,7 +7,7 @@ use Prim.Native.Nat.{◌-◌, ◌≤◌, ◌<◌}
 use mathlib.Core.Path.{◌≡◌, ◌∙◌, ap, sym}
 use lib.ListN.{length}
 use Rattle.salvage.specs.Items.{next_place}
-use Rattle.salvage.proofs.Places.{search, search-here, search-on, search-end}
+use Rattle.salvage.proofs.Places.{search, search_here, search_on, search_end}
 use Rattle.salvage.proofs.searching.next_place.Statement.{statement}
 use Rattle.salvage.proofs.searching.next_place.Tie as tie
 
@@ -30,7 +30,7 @@ goes-on-requires c κs = omega arith
 returns : tie.Need-returns invariant-loop decreases-loop
 returns c =
     let l = c.before.before.before in
-    sym (search-here _ _ c.before.before.loop-test.true (sym c.before.goes_on.ensures ∙ c.if1.true)) ∙ l.loop.invariant.1
+    sym (search_here _ _ c.before.before.loop-test.true (sym c.before.goes_on.ensures ∙ c.if1.true)) ∙ l.loop.invariant.1
 
 add-q-2 : tie.Need-overflow-add-q-2 invariant-loop decreases-loop
 add-q-2 c = omega arith
@@ -42,12 +42,12 @@ loop-again : tie.Need-loop-preserved invariant-loop decreases-loop
 loop-again c =
     let l = c.before.before.before in
     let s = l.before.before.args.s.now in
-    (omega arith, ap (search s) (add-one l.loop.q) ∙ sym (search-on s l.loop.q c.before.before.loop-test.true (sym c.before.goes_on.ensures ∙ c.if1.false)) ∙ l.loop.invariant.1)
+    (omega arith, ap (search s) (add-one l.loop.q) ∙ sym (search_on s l.loop.q c.before.before.loop-test.true (sym c.before.goes_on.ensures ∙ c.if1.false)) ∙ l.loop.invariant.1)
 
 returns-2 : tie.Need-returns-2 invariant-loop decreases-loop
 returns-2 c =
     let d = c.before.before.before in
-    sym (search-end d.args.s.now c.before.loop.q c.loop-test.false) ∙ c.before.loop.invariant.1
+    sym (search_end d.args.s.now c.before.loop.q c.loop-test.false) ∙ c.before.loop.invariant.1
 
 pub next-place-spec : {M : Type 1} → statement M
 next-place-spec =

@@ -6,7 +6,7 @@ use borrow.Author.Rules.{rules}
 use Rattle.strings.specs.declared.Checked.{Checked}
 use Rattle.words.specs.Calls.{number_in}
 use Rattle.hearing.specs.Hears.{Hears}
-use Rattle.hearing.proofs.Hearing.{heard_not, heard-clear, heard-number, heard-verdict}
+use Rattle.hearing.proofs.Hearing.{heard_not, heard_clear, heard_number, heard_verdict}
 use Rattle.seen.specs.Seen.{bit_in, seen, seen_in}
 use Rattle.seen.proofs.seeing.see.Statement.{statement}
 use Rattle.seen.proofs.seeing.see.Tie as tie
@@ -48,7 +48,7 @@ returns-2 : tie.Need-returns-2
 unfolding seen_in
 returns-2 c =
     let h = heard_as _ _ _ c.before.before.before.before.heard.given.1 c.before.before.before.before.before.before.before.hear.ensures in
-    rw (heard-clear _ _ _ _ h) (ap₂ (λ (bit m : ℕ). seen bit m 0) (c.before.before.bit_in.ensures ∙ ap bit_in (heard-verdict _ _ _ _ h)) (c.number_in.ensures ∙ ap number_in (heard-number _ _ _ _ h)))
+    rw (heard_clear _ _ _ _ h) (ap₂ (λ (bit m : ℕ). seen bit m 0) (c.before.before.bit_in.ensures ∙ ap bit_in (heard_verdict _ _ _ _ h)) (c.number_in.ensures ∙ ap number_in (heard_number _ _ _ _ h)))
 
 pub see-spec : {M : Type 1} → statement M
 see-spec =

@@ -5,7 +5,7 @@ use mathlib.Core.Path.{◌≡◌, sym, ◌∙◌}
 use lib.ListN.{length}
 use Rattle.strings.proofs.Shape.{shape_told}
 use Rattle.superframe.proofs.Lowest.{lowest_most}
-use Rattle.sky.proofs.Laws.{no_room_lem, no-order, no-range, is_made}
+use Rattle.sky.proofs.Laws.{no_room_lem, no_order, no_range, is_made}
 use borrow.Author.Rules.{rules}
 use Rattle.sky.proofs.making.make_sky.Statement.{statement}
 use Rattle.sky.proofs.making.make_sky.Tie as tie
@@ -22,7 +22,7 @@ returns-2 : tie.Need-returns-2
 returns-2 c =
     let d = c.before.before.before.before.args in
     let h : length d.out.now ≡ 15000 = search rules in
-    no-order d.sky d.out.now h (shape_told c.before.in_order_lem.ensures c.if2.true)
+    no_order d.sky d.out.now h (shape_told c.before.in_order_lem.ensures c.if2.true)
 
 lowest-bad-requires : tie.Need-lowest-bad-requires
 lowest-bad-requires c κs = search rules
@@ -36,7 +36,7 @@ returns-3 : tie.Need-returns-3
 returns-3 c =
     let d = c.before.before.before.before.before.before.args in
     let h : length d.out.now ≡ 15000 = search rules in
-    no-range d.sky d.out.now h (shape_told c.before.before.before.in_order_lem.ensures c.before.before.if2.false) c.before.lowest-bad.result c.before.lowest-bad.ensures c.if3.true
+    no_range d.sky d.out.now h (shape_told c.before.before.before.in_order_lem.ensures c.before.before.if2.false) c.before.lowest-bad.result c.before.lowest-bad.ensures c.if3.true
 
 write-sky-requires : tie.Need-write-sky-requires
 write-sky-requires c κs = search rules

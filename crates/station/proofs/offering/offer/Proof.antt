@@ -2,7 +2,7 @@
 use native.Mathlib.Omega.{arith}
 use Rattle.station.specs.Station.{no_row}
 use Rattle.station.proofs.Served.{opened, shut}
-use Rattle.station.proofs.AfterOffer.{offer_shut, after-offer, offer_open}
+use Rattle.station.proofs.AfterOffer.{offer_shut, after_offer_lem, offer_open}
 use borrow.Author.Rules.{rules}
 use Rattle.station.proofs.offering.offer.Statement.{statement}
 use Rattle.station.proofs.offering.offer.Tie as tie
@@ -53,7 +53,7 @@ returns-2 c =
     let a = e.before.before.args in
     offer_open a.t1 a.card a.channel _ a.epoch a.s.now _ (opened a.card a.channel e.enter.ensures g.gate2.given.1)
     (λ f.
-    after-offer a.t1 a.card _ a.epoch a.s.now p.offer.result b.result.book b.result.changed c.next-summary.result
+    after_offer_lem a.t1 a.card _ a.epoch a.s.now p.offer.result b.result.book b.result.changed c.next-summary.result
     f p.offer.ensures b.ensures.0 b.ensures.1 c.next-summary.ensures)
 
 pub offer-spec : {M : Type 1} → statement M

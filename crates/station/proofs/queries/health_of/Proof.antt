@@ -3,7 +3,7 @@ use native.Mathlib.Omega.{arith}
 use borrow.Author.Rules.{rules}
 use Rattle.station.specs.Station.{no_row}
 use Rattle.station.proofs.Served.{opened, shut}
-use Rattle.station.proofs.Asked.{health-shut, health-there}
+use Rattle.station.proofs.Asked.{health_shut, health_there}
 use Rattle.station.proofs.queries.health_of.Statement.{statement}
 use Rattle.station.proofs.queries.health_of.Tie as tie
 
@@ -26,7 +26,7 @@ health-by-requires : tie.Need-health-by-requires
 health-by-requires c κs = search rules
 
 returns : tie.Need-returns
-returns c = let e = c.before.before.before in let a = e.before.args in health-shut a.t1 a.card a.channel _ (shut a.card a.channel e.enter.ensures c.before.gate.given.1)
+returns c = let e = c.before.before.before in let a = e.before.args in health_shut a.t1 a.card a.channel _ (shut a.card a.channel e.enter.ensures c.before.gate.given.1)
 
 returns-2 : tie.Need-returns-2
 unfolding no_row
@@ -34,7 +34,7 @@ returns-2 c =
     let g = c.before.before.before.before.before in
     let e = g.before.before in
     let a = e.before.args in
-    health-there a.t1 a.card a.channel _ (opened a.card a.channel e.enter.ensures g.gate2.given.1) _ c.health-by.ensures
+    health_there a.t1 a.card a.channel _ (opened a.card a.channel e.enter.ensures g.gate2.given.1) _ c.health-by.ensures
 
 pub health-of-spec : {M : Type 1} → statement M
 health-of-spec = tie.close (tie.spec enter-requires enum-known-gate enum-known-gate-2 mul-row element-copy-out-row health-by-requires returns returns-2)

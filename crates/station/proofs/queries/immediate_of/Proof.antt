@@ -4,7 +4,7 @@ use borrow.Author.Rules.{rules}
 use Rattle.shows.proofs.Shows.{is_so, is_not}
 use Rattle.station.specs.Station.{no_row}
 use Rattle.station.proofs.Served.{opened, shut}
-use Rattle.station.proofs.Asked.{record-shut, record-missing, record_there}
+use Rattle.station.proofs.Asked.{record_shut, record_missing, record_there}
 use Rattle.station.proofs.queries.immediate_of.Statement.{statement}
 use Rattle.station.proofs.queries.immediate_of.Tie as tie
 
@@ -33,13 +33,13 @@ returns c =
     let g = h.before.before.before.before in
     let e = g.before.before in
     let a = e.before.args in
-    record-missing a.t1 a.card a.channel _ (opened a.card a.channel e.enter.ensures g.gate2.given.1) (is_not h.has_record_lem.ensures c.if1.true)
+    record_missing a.t1 a.card a.channel _ (opened a.card a.channel e.enter.ensures g.gate2.given.1) (is_not h.has_record_lem.ensures c.if1.true)
 
 immediate-words-requires : tie.Need-immediate-words-requires
 immediate-words-requires c κs = search rules
 
 returns-2 : tie.Need-returns-2
-returns-2 c = let e = c.before.before.before in let a = e.before.args in record-shut a.t1 a.card a.channel _ (shut a.card a.channel e.enter.ensures c.before.gate.given.1)
+returns-2 c = let e = c.before.before.before in let a = e.before.args in record_shut a.t1 a.card a.channel _ (shut a.card a.channel e.enter.ensures c.before.gate.given.1)
 
 returns-3 : tie.Need-returns-3
 unfolding no_row

@@ -4,7 +4,7 @@ use mathlib.Core.Bool.{false}
 use borrow.Author.Rules.{rules}
 use Rattle.strings.specs.Number.{misshapen}
 use Rattle.strings.proofs.Shape.{shaped, shape_told}
-use Rattle.strings.proofs.CheckAnswers.{check-no-room, check-no-shape, check-damaged}
+use Rattle.strings.proofs.CheckAnswers.{check_no_room, check_no_shape, check_damaged}
 use Rattle.strings.proofs.checking.check.Statement.{statement}
 use Rattle.strings.proofs.checking.check.Tie as tie
 
@@ -13,13 +13,13 @@ shape : (d : tie.Else2) → misshapen d.before.before.before.before.before.args.
 shape d = shape_told d.before.well-shaped.ensures d.if2.false
 
 returns : tie.Need-returns
-returns c = check-no-room _ _ c.if1.true
+returns c = check_no_room _ _ c.if1.true
 
 well-shaped-requires : tie.Need-well-shaped-requires
 well-shaped-requires c κs = search rules
 
 returns-2 : tie.Need-returns-2
-returns-2 c = check-no-shape _ _ c.before.before.if1.false (shape_told c.before.well-shaped.ensures c.if2.true)
+returns-2 c = check_no_shape _ _ c.before.before.if1.false (shape_told c.before.well-shaped.ensures c.if2.true)
 
 examine-requires : tie.Need-examine-requires
 examine-requires c κs = (shaped _ (shape c)).0
@@ -38,7 +38,7 @@ take-requires c κs =
 returns-3 : tie.Need-returns-3
 returns-3 c =
     let d = c.before.before.before.before in
-    check-damaged _ _ d.before.before.if1.false (shape d) _ (sym c.before.before.before.examine.ensures ∙ c.before.found.given.1)
+    check_damaged _ _ d.before.before.if1.false (shape d) _ (sym c.before.before.before.examine.ensures ∙ c.before.found.given.1)
 
 same_length : tie.Need-same-length
 same_length c = search rules

@@ -13,7 +13,7 @@ use Rattle.strings.specs.Hamming.{ruling, mended_by}
 use Rattle.strings.proofs.Value.{copied, string_is}
 use Rattle.strings.proofs.Shape.{shaped}
 use Rattle.strings.proofs.Judge.{names_bit}
-use Rattle.strings.proofs.CheckAnswers.{check-idle, check-taken}
+use Rattle.strings.proofs.CheckAnswers.{check_idle, check_taken}
 use Rattle.strings.proofs.checking.take.Statement.{statement}
 use Rattle.strings.proofs.checking.take.Tie as tie
 
@@ -36,7 +36,7 @@ idle-after-requires c κs = ((shaped (S c) (shape c)).0, names_bit (number_of (S
 returns : tie.Need-returns
 returns c =
     let d = c.before.before in
-    check-idle (S d) _ (room d) (shape d) _ (ruled d) (eq-eqb _ _ (sym c.before.idle-after.ensures ∙ c.if1.true))
+    check_idle (S d) _ (room d) (shape d) _ (ruled d) (eq-eqb _ _ (sym c.before.idle-after.ensures ∙ c.if1.true))
 
 copy-requires : tie.Need-copy-requires
 copy-requires c κs = let d = c.before.before.before in omega (arith, (shaped (S d) (shape d)).0, room d)
@@ -60,7 +60,7 @@ returns-2 c =
     let left = mended_by (Sound d.before.before.args.v) in
     rw (string_is m.new.0 (left (number_of (S d))) (λ k. (c.slice-known3.given k).fits) (m.auto.0 ∙ p.auto.1.0 ∙ room d) (m.ensures.1 ∙ ap padding_of e ∙ s.1)
     (m.ensures.0 ∙ ap (λ (l : List ℕ). left (number_of l)) e))
-    (check-taken (S d) _ (room d) (shape d) _ (ruled d) (ne_eqb _ _ (λ q. c.before.before.before.before.before.before.before.before.if1.false (i.idle-after.ensures ∙ q))))
+    (check_taken (S d) _ (room d) (shape d) _ (ruled d) (ne_eqb _ _ (λ q. c.before.before.before.before.before.before.before.before.if1.false (i.idle-after.ensures ∙ q))))
 
 pub take_spec : {M : Type 1} → statement M
 take_spec =

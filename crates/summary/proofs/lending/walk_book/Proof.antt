@@ -105,9 +105,9 @@ module _ {M : Type 1} {𝓤 : Ura M} (𝓛 : Logic 𝓤) (mem : Memory → SProp
       nothing ! $ nothing ! $ fjoin ! $ nothing ! $ frame ! $ frame ! $ done !
 
   -- the array's cell is its elements, side by side, and when they are back it is room for an array
-  to-parts : (l : ℕ) → ent 𝓤 (sem 𝓛 (fat full_share arr l 0 v)) (sem 𝓛 ((arr_parts (shares E.the_row) (length es)).part full_share es l 0))
+  to_parts : (l : ℕ) → ent 𝓤 (sem 𝓛 (fat full_share arr l 0 v)) (sem 𝓛 ((arr_parts (shares E.the_row) (length es)).part full_share es l 0))
   unfolding part_of
-  to-parts l =
+  to_parts l =
       qed 𝓛 (‵ (fat full_share arr l 0 v) ∷ []) ∵ use1 𝓛 (‵ (cell_at full_share Book.mir (spelled es) l 0)) (𝓛.laws.at_raw full_share arr l 0 v) $
       owned ! Book (Is Book) (Array-Makes 𝓛 E.the_row (LL.makes E.the_type E'.the_plain 𝓛) slots) es _ ib $ move ! (1 ∷ 0 ∷ []) $ fjoin ! $
       fpack ! (List Val) (λ us. fsep (cell_at full_share Book.mir us l 0) (Book.own es us)) (spelled es) $ use1 𝓛 (‵ ((arr_parts (shares E.the_row) slots).part full_share es l 0)) (Array-apart 𝓛 E.the_row full_share tt slots es l 0) $
@@ -124,17 +124,17 @@ module _ {M : Type 1} {𝓤 : Ura M} (𝓛 : Logic 𝓤) (mem : Memory → SProp
   abbrev slice_at : ℕ → GName → Bor (List Entry)
   slice_at l γ = record { ref_ptr = (l, 0); now = es }
 
-  abbrev to-lent : Lft → ℕ → GName → (Lent 𝓛 mem run).Ghost
-  to-lent κ l γ = (((κ, tt), (full_share, tt), tt, (slice_at l γ, tt), (slice_val (l, 0) (length es) ∷ [], tt)), tt)
+  abbrev to_lent : Lft → ℕ → GName → (Lent 𝓛 mem run).Ghost
+  to_lent κ l γ = (((κ, tt), (full_share, tt), tt, (slice_at l γ, tt), (slice_val (l, 0) (length es) ∷ [], tt)), tt)
 
   abbrev Slice : Lft → ℕ → GName → Item 𝓤
   Slice κ l γ = ‵ ((ShrSlice (named 0) κ E.the_row).own_val (slice_at l γ) (slice_val (l, 0) (length es) ∷ []))
 
-  goes-lent : (κ : Lft) (l : ℕ) (γ : GName) → ent 𝓤 (⋆ 𝓛 (Slice κ l γ ∷ ‵ (flft κ full_share) ∷ [])) ((Lent 𝓛 mem run).pre (to-lent κ l γ))
-  goes-lent κ l γ = qed 𝓛 (Slice κ l γ ∷ ‵ (flft κ full_share) ∷ []) ∵ nothing ! $ move ! (1 ∷ 0 ∷ []) $ fjoin ! $ nothing ! $ move ! (2 ∷ 0 ∷ []) $ join ! $ join ! $ frame ! $ done !
+  goes_lent : (κ : Lft) (l : ℕ) (γ : GName) → ent 𝓤 (⋆ 𝓛 (Slice κ l γ ∷ ‵ (flft κ full_share) ∷ [])) ((Lent 𝓛 mem run).pre (to_lent κ l γ))
+  goes_lent κ l γ = qed 𝓛 (Slice κ l γ ∷ ‵ (flft κ full_share) ∷ []) ∵ nothing ! $ move ! (1 ∷ 0 ∷ []) $ fjoin ! $ nothing ! $ move ! (2 ∷ 0 ∷ []) $ join ! $ join ! $ frame ! $ done !
 
-  lent-said : (κ : Lft) (l : ℕ) (γ : GName) (r : Summary) → ent 𝓤 (ensured 𝓛 lent.ended (lent.clauses 𝓛 mem run) (κ, tt) (slice_at l γ, tt) tt r) (fact 𝓤 (r ≡ walk_of es))
-  lent-said κ l γ r = ex_e 𝓤 _ (λ ws. snd∗ 𝓤 (sem 𝓛 (lasts lent.ended (κ, tt) (slice_at l γ, tt) ws)) (fact 𝓤 (r ≡ walk_of es)))
+  lent_said : (κ : Lft) (l : ℕ) (γ : GName) (r : Summary) → ent 𝓤 (ensured 𝓛 lent.ended (lent.clauses 𝓛 mem run) (κ, tt) (slice_at l γ, tt) tt r) (fact 𝓤 (r ≡ walk_of es))
+  lent_said κ l γ r = ex_e 𝓤 _ (λ ws. snd∗ 𝓤 (sem 𝓛 (lasts lent.ended (κ, tt) (slice_at l γ, tt) ws)) (fact 𝓤 (r ≡ walk_of es)))
 
   typed : T (has_ty arr v) × WT v
   typed = ((Array-Lawful 𝓛 E.the_row (LL.lawful E.the_type E'.the_laws 𝓛) slots).typed es _ ib).0
@@ -152,13 +152,13 @@ module _ {M : Type 1} {𝓤 : Ura M} (𝓛 : Logic 𝓤) (mem : Memory → SProp
         assigns ! (agg ! (and_then ! (load ! (from ! (stop !)) (look ! 2 refl)) (and_then ! (lit ! tt) (no_more !)))) (from ! (stop !)) (init ! 0 refl (tt, (tt, (record { fits = lit< tt }, tt)))) $
         rewrite ! 0 (λ (n : ℕ). ‵ (fat full_share (slice_ty (ty_ref erased imm (pointee (E.the_row).written))) l₄ 0 (slice_val (l₂, 0) n))) (sym long) refl $
         -- [_4; …; _3; …; _2; …; _1; …; room for _0; …; what is owned at entry]
-        lft_new ! tt (λ ν. move ! (5 ∷ []) $ use1 𝓛 (‵ ((arr_parts (shares E.the_row) (length es)).part full_share es l₂ 0)) (to-parts l₂) $
+        lft_new ! tt (λ ν. move ! (5 ∷ []) $ use1 𝓛 (‵ ((arr_parts (shares E.the_row) (length es)).part full_share es l₂ 0)) (to_parts l₂) $
         use1 𝓛 (later (some (λ (γ : GName). Slice (ν ∷ []) l₂ γ ⊛ ‵ (flent (ν ∷ []) ((arr_parts (shares E.the_row) (length es)).part full_share es l₂ 0))))) (lends_shr_slice 𝓛 E.the_row (named 0) (ν ∷ []) full_share es l₂ 0 has_room_lem) $ await ! tt $ pick ! (λ γ. split ! $
         -- [the slice; the lender's part; the token; _4; …; _3; …; that _2 dies; _1; …; room for _0; …]
-        move ! (0 ∷ 2 ∷ []) $ use2 𝓛 (raw ((Lent 𝓛 mem run).pre (to-lent (ν ∷ []) l₂ γ))) (goes-lent (ν ∷ []) l₂ γ) $
-        calls_at ! fm (Lent 𝓛 mem run) known (to-lent (ν ∷ []) l₂ γ) (and_then ! (load ! (from ! (stop !)) (look ! 2 refl)) (no_more !)) (λ u.
+        move ! (0 ∷ 2 ∷ []) $ use2 𝓛 (raw ((Lent 𝓛 mem run).pre (to_lent (ν ∷ []) l₂ γ))) (goes_lent (ν ∷ []) l₂ γ) $
+        calls_at ! fm (Lent 𝓛 mem run) known (to_lent (ν ∷ []) l₂ γ) (and_then ! (load ! (from ! (stop !)) (look ! 2 refl)) (no_more !)) (λ u.
         use1 𝓛 (later (some (λ (r : Summary). ((‵ (flft (ν ∷ []) full_share) ⊛ ‵ ftrue) ⊛ ‵ ((S.the_row).own_val r (u ∷ []))) ⊛ raw (ensured 𝓛 lent.ended (lent.clauses 𝓛 mem run) (ν ∷ [], tt) (slice_at l₂ γ, tt) tt r)))) (id⊢ 𝓤 _) $ await ! tt $ pick ! (λ r.
-        split ! $ move ! (1 ∷ []) $ use1 𝓛 (raw (fact 𝓤 (r ≡ walk_of es))) (lent-said (ν ∷ []) l₂ γ r) $ heard ! (r ≡ walk_of es) (λ e. split ! $ split ! $ lft_end ! tt $
+        split ! $ move ! (1 ∷ []) $ use1 𝓛 (raw (fact 𝓤 (r ≡ walk_of es))) (lent_said (ν ∷ []) l₂ γ r) $ heard ! (r ≡ walk_of es) (λ e. split ! $ split ! $ lft_end ! tt $
         -- [the lifetime is over; true; the result; the lender's part; _4; …; _3; …; that _2 dies; _1; …; room for _0; …]
         move ! (0 ∷ 3 ∷ []) $ lent_back ! tt $ use1 𝓛 (‵ (froom arr l₂ 0)) (from_parts l₂) $ move ! (2 ∷ []) $ peeks ! S.the_row (Is S.the_row) (shows 𝓛 S.the_row) r (u ∷ []) (λ is.
         -- [the result; room for _2; true; _4; …; _3; …; that _2 dies; _1; …; room for _0; …]
@@ -169,14 +169,14 @@ module _ {M : Type 1} {𝓤 : Ura M} (𝓛 : Logic 𝓤) (mem : Memory → SProp
 module _ {M : Type 1} {𝓤 : Ura M} (𝓛 : Logic 𝓤) (mem : Memory → SProp 𝓤) (run : Routine → Fun 𝓤) where
   open 𝓛 use {H}
 
-  book-walks : (C : Calls 𝓤 H) (Λ : Loops 𝓤 H) → FmC 𝓤 H 𝓛.laws C → Triple 𝓤 (C #walk-lent) (Lent 𝓛 mem run) → Walks 𝓛 book.ended stayed (WpFn 𝓤 H C Λ code.function) (book.clauses 𝓛 mem run)
-  book-walks C Λ fm known = walked 𝓛 book.ended stayed (book.clauses 𝓛 mem run) (WpFn 𝓤 H C Λ code.function) (λ κs. (spelled, tt)) (λ κs. (tells, tt))
+  book_walks : (C : Calls 𝓤 H) (Λ : Loops 𝓤 H) → FmC 𝓤 H 𝓛.laws C → Triple 𝓤 (C #walk-lent) (Lent 𝓛 mem run) → Walks 𝓛 book.ended stayed (WpFn 𝓤 H C Λ code.function) (book.clauses 𝓛 mem run)
+  book_walks C Λ fm known = walked 𝓛 book.ended stayed (book.clauses 𝓛 mem run) (WpFn 𝓤 H C Λ code.function) (λ κs. (spelled, tt)) (λ κs. (tells, tt))
       (λ κs qs bounds a _ are. via 𝓤 _ (fst∗ 𝓤 _ (emp 𝓤)) (walk 𝓛 mem run a.0 are.0 C Λ fm known))
 
 book_meets : {M : Type 1} {𝓤 : Ura M} (𝓛 : Logic 𝓤) (mem : Memory → SProp 𝓤) (run : Routine → Fun 𝓤) (𝓣 : Tables 𝓤 𝓛.H) → Triple 𝓤 (𝓣.C #walk-lent) (Lent 𝓛 mem run)
     → Meets 𝓛 book.signature (WpFn 𝓤 𝓛.H 𝓣.C 𝓣.Λ code.function) (book.spec 𝓛 mem run)
 book_meets {𝓤 = 𝓤} 𝓛 mem run 𝓣 known = walk_Meets 𝓛 book.ended stayed (Goes-dropped 𝓛 0 book_slot yes (λ κs x f. refl), tt) (book.clauses 𝓛 mem run) (WpFn 𝓤 𝓛.H 𝓣.C 𝓣.Λ code.function) (WpFn-mono 𝓤 𝓛.H 𝓛.laws 𝓣 code.function)
-    (book-walks 𝓛 mem run 𝓣.C 𝓣.Λ (fm_of 𝓤 𝓛.H 𝓛.laws 𝓣) known)
+    (book_walks 𝓛 mem run 𝓣.C 𝓣.Λ (fm_of 𝓤 𝓛.H 𝓛.laws 𝓣) known)
 
 pub walk-book-spec : {M : Type 1} → stated.statement M
 unfolding code.routine tables_of

@@ -130,17 +130,17 @@ module _ {M : Type 1} {𝓤 : Ura M} (𝓛 : Logic 𝓤) (mem : Memory → SProp
       frame ! $ frame ! $ owned ! S.the_row (Is S.the_row) (LL.makes S.the_type S'.the_plain 𝓛) s (u ∷ []) is $ done !
 
   -- what the callees ask
-  abbrev to_none : (None 𝓛 mem run).Ghost
-  to_none = ((tt, tt, tt, tt, tt), tt)
+  abbrev to_none_lem : (None 𝓛 mem run).Ghost
+  to_none_lem = ((tt, tt, tt, tt, tt), tt)
 
-  goes_none : ent 𝓤 (emp 𝓤) ((None 𝓛 mem run).pre to_none)
+  goes_none : ent 𝓤 (emp 𝓤) ((None 𝓛 mem run).pre to_none_lem)
   goes_none = qed 𝓛 [] ∵ nothing ! $ nothing ! $ join ! $ frame ! $ done !
 
-  abbrev to-line : Summary → Val → Entry → (Line 𝓛 mem run).Ghost
-  to-line s u e = ((tt, tt, tt, (s, (e, tt)), (u ∷ [], (E'.lowered e ∷ [], tt))), tt)
+  abbrev to_line : Summary → Val → Entry → (Line 𝓛 mem run).Ghost
+  to_line s u e = ((tt, tt, tt, (s, (e, tt)), (u ∷ [], (E'.lowered e ∷ [], tt))), tt)
 
-  goes-line : (s : Summary) (u : Val) (e : Entry) → s.count + 1 < 2 ^ 64 → Is S.the_row s (u ∷ []) → Is E.the_row e (E'.lowered e ∷ []) → ent 𝓤 (emp 𝓤) ((Line 𝓛 mem run).pre (to-line s u e))
-  goes-line s u e ok is ie =
+  goes_line : (s : Summary) (u : Val) (e : Entry) → s.count + 1 < 2 ^ 64 → Is S.the_row s (u ∷ []) → Is E.the_row e (E'.lowered e ∷ []) → ent 𝓤 (emp 𝓤) ((Line 𝓛 mem run).pre (to_line s u e))
+  goes_line s u e ok is ie =
       qed 𝓛 [] ∵ says ! ok $ nothing ! $ owned ! E.the_row (Is E.the_row) (LL.makes E.the_type E'.the_plain 𝓛) e _ ie $ fjoin ! $
       owned ! S.the_row (Is S.the_row) (LL.makes S.the_type S'.the_plain 𝓛) s _ is $ fjoin ! $ nothing ! $ done !
 
@@ -156,8 +156,8 @@ module _ {M : Type 1} {𝓤 : Ura M} (𝓛 : Logic 𝓤) (mem : Memory → SProp
   abbrev Nearer : St → St → Type 0
   Nearer t' t = n - t'.i < n - t.i
 
-  Nearer-wf : WellFounded Nearer
-  Nearer-wf = InvImage.wf (λ (t : St). n - t.i) lt-wf_rel.wf
+  nearer_wf : WellFounded Nearer
+  nearer_wf = InvImage.wf (λ (t : St). n - t.i) lt-wf_rel.wf
 
   module _ (𝓣 : Tables 𝓤 H) (known-none : Triple 𝓤 (𝓣.C #none-filled) (None 𝓛 mem run)) (known-line : Triple 𝓤 (𝓣.C #with-line) (Line 𝓛 mem run)) (g : Room E.the_row n) where
     abbrev C : Calls 𝓤 H
@@ -198,8 +198,8 @@ module _ {M : Type 1} {𝓤 : Ura M} (𝓛 : Logic 𝓤) (mem : Memory → SProp
           -- [line i; what it owns; the others; s; i; _4; _5; _6; room for _7; …]
           assigns ! (of_opd ! (load ! (from ! (hop ! (look ! 7 refl) (stop !))) (look_raw ! 0 refl))) (from ! (stop !)) (init ! 8 refl ((LL.lawful E.the_type E'.the_laws 𝓛).typed e _ ie).0) $
           elem_back ! E.the_row q' ys t.i blank (E'.lowered e ∷ []) b o l $
-          use0 𝓛 (raw ((Line 𝓛 mem run).pre (to-line t.s t.u e))) (goes-line t.s t.u e fits t.is ie) $
-          calls_at ! fm (Line 𝓛 mem run) known-line (to-line t.s t.u e) (and_then ! (load ! (from ! (stop !)) (look ! 2 refl)) (and_then ! (load ! (from ! (stop !)) (look ! 7 refl)) (no_more !))) (λ u'.
+          use0 𝓛 (raw ((Line 𝓛 mem run).pre (to_line t.s t.u e))) (goes_line t.s t.u e fits t.is ie) $
+          calls_at ! fm (Line 𝓛 mem run) known-line (to_line t.s t.u e) (and_then ! (load ! (from ! (stop !)) (look ! 2 refl)) (and_then ! (load ! (from ! (stop !)) (look ! 7 refl)) (no_more !))) (λ u'.
           use1 𝓛 (later (some (λ (r : Summary). (‵ ftrue ⊛ ‵ ((S.the_row).own_val r (u' ∷ []))) ⊛ raw (ensured 𝓛 line'.ended (line'.clauses 𝓛 mem run) tt (t.s, (e, tt)) tt r)))) (id⊢ 𝓤 _) $ await ! tt $ pick ! (λ r.
           split ! $ move ! (1 ∷ []) $ use1 𝓛 (raw (fact 𝓤 (LineIs t.s e r))) (line_of 𝓛 mem run t.s e r) $ heard ! (LineIs t.s e r) (λ er. split ! $ drop ! $
           peeks ! S.the_row (Is S.the_row) (shows 𝓛 S.the_row) r (u' ∷ []) (λ is'. drop ! $
@@ -244,7 +244,7 @@ module _ {M : Type 1} {𝓤 : Ura M} (𝓛 : Logic 𝓤) (mem : Memory → SProp
       turns t = elim (eq-or-lt_of_le t.upto) [ inl e ↦ over t (omega (arith, e)) | inr l ↦ more t l ]
 
       from-loop : (t : St) → Sq 𝓛 (At t) (runs C Λ En body.t-3 (at_ret En Post))
-      from-loop t = first ! $ blocks ! $ loops ! 𝓣 Nearer Nearer-wf At turns t
+      from-loop t = first ! $ blocks ! $ loops ! 𝓣 Nearer nearer_wf At turns t
 
     abbrev Locals : (l₀ l₁ l₂ l₃ l₄ l₅ l₆ l₇ : ℕ) → Env 𝓤 H
     Locals l₀ l₁ l₂ l₃ l₄ l₅ l₆ l₇ = (S'.mir, l₀) ∷ (slice, l₁) ∷ (S'.mir, l₂) ∷ (word, l₃) ∷ (word, l₄) ∷ (ty_bool, l₅) ∷ (ty_ptr, l₆) ∷ (E'.mir, l₇) ∷ []
@@ -267,8 +267,8 @@ module _ {M : Type 1} {𝓤 : Ura M} (𝓛 : Logic 𝓤) (mem : Memory → SProp
     walk =
         qed 𝓛 ((‵ (flft κ q) ⊛ ‵ ftrue) ∷ ‵ (owns (ShrSlice (named 0) κ E.the_row ∷ []) x at) ∷ []) ∵ enter ! C Λ code.function (slice_val (b, o) n ∷ []) _ $
         alloc1 ! (λ l₀. alloc1 ! (λ l₁. alloc1 ! (λ l₂. alloc1 ! (λ l₃. alloc1 ! (λ l₄. alloc1 ! (λ l₅. alloc1 ! (λ l₆. alloc1 ! (λ l₇. alloc0 ! $ params1 ! $ pass1 ! (init ! 12 refl (tt, (tt, (record { fits = g.0 }, tt)))) $ pass0 ! $
-        use0 𝓛 (raw ((None 𝓛 mem run).pre to_none)) goes_none $
-        calls_at ! fm (None 𝓛 mem run) known-none to_none (no_more !) (λ u.
+        use0 𝓛 (raw ((None 𝓛 mem run).pre to_none_lem)) goes_none $
+        calls_at ! fm (None 𝓛 mem run) known-none to_none_lem (no_more !) (λ u.
         use1 𝓛 (later (some (λ (r : Summary). (‵ ftrue ⊛ ‵ ((S.the_row).own_val r (u ∷ []))) ⊛ raw (ensured 𝓛 none'.ended (none'.clauses 𝓛 mem run) tt tt tt r)))) (id⊢ 𝓤 _) $ await ! tt $ pick ! (λ r.
         split ! $ move ! (1 ∷ []) $ use1 𝓛 (raw (fact 𝓤 (r ≡ none_filled))) (none_of 𝓛 mem run r) $ heard ! (r ≡ none_filled) (λ e. split ! $ drop ! $
         peeks ! S.the_row (Is S.the_row) (shows 𝓛 S.the_row) r (u ∷ []) (λ is. drop ! $
@@ -277,16 +277,16 @@ module _ {M : Type 1} {𝓤 : Ura M} (𝓛 : Logic 𝓤) (mem : Memory → SProp
 module _ {M : Type 1} {𝓤 : Ura M} (𝓛 : Logic 𝓤) (mem : Memory → SProp 𝓤) (run : Routine → Fun 𝓤) (𝓣 : Tables 𝓤 𝓛.H) where
   open 𝓛 use {H}
 
-  lent-walks : Triple 𝓤 (𝓣.C #none-filled) (None 𝓛 mem run) → Triple 𝓤 (𝓣.C #with-line) (Line 𝓛 mem run)
+  lent_walks : Triple 𝓤 (𝓣.C #none-filled) (None 𝓛 mem run) → Triple 𝓤 (𝓣.C #with-line) (Line 𝓛 mem run)
       → Walks 𝓛 lent.ended stayed (WpFn 𝓤 H 𝓣.C 𝓣.Λ code.function) (lent.clauses 𝓛 mem run)
-  lent-walks known-none known-line = walked 𝓛 lent.ended stayed (lent.clauses 𝓛 mem run) (WpFn 𝓤 H 𝓣.C 𝓣.Λ code.function) (λ κs. (shr_slice_vals, tt)) (λ κs. (shr_slice_Tells (named 0) κs.0 E.the_row, tt))
+  lent_walks known-none known-line = walked 𝓛 lent.ended stayed (lent.clauses 𝓛 mem run) (WpFn 𝓤 H 𝓣.C 𝓣.Λ code.function) (λ κs. (shr_slice_vals, tt)) (λ κs. (shr_slice_Tells (named 0) κs.0 E.the_row, tt))
       (λ κs qs bounds a _ are. via 𝓤 _ (fst∗ 𝓤 _ (emp 𝓤)) (walk 𝓛 mem run κs.0 qs.0 a.0.ref_ptr.0 a.0.ref_ptr.1 0 a.0.now 𝓣 known-none known-line are.0.0.1))
 
 lent_meets : {M : Type 1} {𝓤 : Ura M} (𝓛 : Logic 𝓤) (mem : Memory → SProp 𝓤) (run : Routine → Fun 𝓤) (𝓣 : Tables 𝓤 𝓛.H)
     → Triple 𝓤 (𝓣.C #none-filled) (None 𝓛 mem run) → Triple 𝓤 (𝓣.C #with-line) (Line 𝓛 mem run)
     → Meets 𝓛 lent.signature (WpFn 𝓤 𝓛.H 𝓣.C 𝓣.Λ code.function) (lent.spec 𝓛 mem run)
 lent_meets {𝓤 = 𝓤} 𝓛 mem run 𝓣 known-none known-line = walk_Meets 𝓛 lent.ended stayed (Goes-none_slice 𝓛 1 (0 ∷ []) tt (plain (λ _. E.the_row)) yes, tt) (lent.clauses 𝓛 mem run) (WpFn 𝓤 𝓛.H 𝓣.C 𝓣.Λ code.function) (WpFn-mono 𝓤 𝓛.H 𝓛.laws 𝓣 code.function)
-    (lent-walks 𝓛 mem run 𝓣 known-none known-line)
+    (lent_walks 𝓛 mem run 𝓣 known-none known-line)
 
 pub walk-lent-spec : {M : Type 1} → stated.statement M
 unfolding code.routine tables_of

@@ -1,7 +1,7 @@
 -- `superframe::placing::record_in` meets its contract. Assumes nothing.
 use mathlib.Core.Path.{◌≡◌, sym, ◌∙◌}
 use native.Mathlib.Omega.{arith}
-use Rattle.superframe.proofs.Places.{alike, last-is, half_is}
+use Rattle.superframe.proofs.Places.{alike, last_is, half_is}
 use borrow.Author.Rules.{rules}
 use Rattle.superframe.proofs.placing.record_in.Statement.{statement}
 use Rattle.superframe.proofs.placing.record_in.Tie as tie
@@ -27,7 +27,7 @@ returns-2 : tie.Need-returns-2
 returns-2 c =
     let s = c.before.before.before.before.before in
     c.last-in.ensures
-    ∙ last-is s.args.t1 s.args.g s.args.m (omega (arith, c.before.before.before.before.if1.false)) s.requires.0 s.requires.1.1 c.before.before.if2.true
+    ∙ last_is s.args.t1 s.args.g s.args.m (omega (arith, c.before.before.before.before.if1.false)) s.requires.0 s.requires.1.1 c.before.before.if2.true
 
 mul-e : tie.Need-overflow-mul-e
 mul-e c = search rules

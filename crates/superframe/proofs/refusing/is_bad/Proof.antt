@@ -4,7 +4,7 @@ use mir.Syntax.{w32}
 use mir.Val.{SFits}
 use mathlib.Core.Path.{◌≡◌, refl, sym, ap, ◌∙◌}
 use borrow.Author.Tests.{eq-eqb, ne_eqb}
-use Rattle.superframe.proofs.Encoder.{bad-is}
+use Rattle.superframe.proofs.Encoder.{bad_is}
 use borrow.Author.Rules.{rules}
 use Rattle.superframe.proofs.refusing.is_bad.Statement.{statement}
 use Rattle.superframe.proofs.refusing.is_bad.Tie as tie
@@ -38,7 +38,7 @@ returns c =
     let h = c.before.before.before.before.before.before in
     let r = c.before.before.before.before.before.record-in in
     let w = c.before.before.before.write-words in
-    let e = bad-is h.args.sky h.args.i h.requires.0 h.requires.1 r.result r.ensures _ _ w.result refl w.ensures in
+    let e = bad_is h.args.sky h.args.i h.requires.0 h.requires.1 r.result r.ensures _ _ w.result refl w.ensures in
     sym (e ∙ rw (← c.before.is-refused.ensures, c.if1.true))
 
 is-number-requires : tie.Need-is-number-requires
@@ -49,7 +49,7 @@ returns-2 c =
     let h = c.before.before.before.before.before.before.before.before.before.before in
     let r = c.before.before.before.before.before.before.before.before.before.record-in in
     let w = c.before.before.before.before.before.before.before.write-words in
-    let e = bad-is h.args.sky h.args.i h.requires.0 h.requires.1 r.result r.ensures _ _ w.result refl w.ensures in
+    let e = bad_is h.args.sky h.args.i h.requires.0 h.requires.1 r.result r.ensures _ _ w.result refl w.ensures in
     let f : SFits w32 h.args.sky.five.n4 = search rules in
     sym (e ∙ rw (← c.before.before.before.before.before.is-refused.ensures, c.before.before.before.before.if1.false, eq-eqb h.args.i 5 c.before.before.before.if2.true) (sym (simp (to_z-of_z f) at c.is-number.ensures)))
 
@@ -58,7 +58,7 @@ returns-3 c =
     let h = c.before.before.before.before.before.before.before in
     let r = c.before.before.before.before.before.before.record-in in
     let w = c.before.before.before.before.write-words in
-    let e = bad-is h.args.sky h.args.i h.requires.0 h.requires.1 r.result r.ensures _ _ w.result refl w.ensures in
+    let e = bad_is h.args.sky h.args.i h.requires.0 h.requires.1 r.result r.ensures _ _ w.result refl w.ensures in
     sym (e ∙ rw (← c.before.before.is-refused.ensures, c.before.if1.false, ne_eqb h.args.i 5 c.if2.false))
 
 pub is-bad-spec : {M : Type 1} → statement M

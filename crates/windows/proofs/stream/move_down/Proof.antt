@@ -2,7 +2,7 @@
 use Prim.Native.Nat.{◌-◌, ◌≤◌}
 use native.Mathlib.Omega.{arith}
 use mathlib.Core.Path.{◌≡◌}
-use Rattle.windows.proofs.Down.{Moved, none-moved, one-moved}
+use Rattle.windows.proofs.Down.{Moved, none_moved, one_moved}
 use borrow.Author.Rules.{rules}
 use Rattle.windows.proofs.stream.move_down.Statement.{statement}
 use Rattle.windows.proofs.stream.move_down.Tie as tie
@@ -14,7 +14,7 @@ abbrev decreases-loop : tie.decreases-loop
 decreases-loop window₀ from n i₀ window i = n - i
 
 loop-holds : tie.Need-loop-init invariant-loop decreases-loop
-loop-holds c = (none-moved, omega arith)
+loop-holds c = (none_moved, omega arith)
 
 add-window : tie.Need-overflow-add-window invariant-loop decreases-loop
 add-window c = omega (arith, c.before.before.requires, c.before.before.well-formed)
@@ -34,7 +34,7 @@ loop-less c = search rules
 loop-again : tie.Need-loop-preserved invariant-loop decreases-loop
 loop-again c =
     let l = c.before.before in
-    (one-moved l.loop.invariant.0 (omega (arith, c.before.loop-test.true, l.before.requires)), omega (arith, c.before.loop-test.true))
+    (one_moved l.loop.invariant.0 (omega (arith, c.before.loop-test.true, l.before.requires)), omega (arith, c.before.loop-test.true))
 
 same_length : tie.Need-same-length invariant-loop decreases-loop
 same_length c = c.before.loop.invariant.0.long

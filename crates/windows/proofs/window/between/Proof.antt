@@ -4,7 +4,7 @@ use native.Mathlib.Omega.{arith}
 use mathlib.Core.Path.{◌∙◌, sym}
 use lib.ListN.{length}
 use Rattle.salvage.proofs.Places.{not_zero}
-use Rattle.fields.proofs.Near.{size_in, size-three, size_small}
+use Rattle.fields.proofs.Near.{size_in_lem, size_three, size_small}
 use Rattle.windows.specs.Window.{longest}
 use Rattle.windows.proofs.Moves.{begins, keeps}
 use borrow.Author.Rules.{rules}
@@ -21,7 +21,7 @@ small d =
     let w = a.args.window.now in
     let h = rw e at (not_zero d.before.size-at.result d.if1.false) in
     rw e
-    (size-three w a.args.at h, (size_in w a.args.at h, size_small w a.args.at (λ k. (d.before.before.before.shared-slice-known.given k).fits) h))
+    (size_three w a.args.at h, (size_in_lem w a.args.at h, size_small w a.args.at (λ k. (d.before.before.before.shared-slice-known.given k).fits) h))
 
 size-at-requires : tie.Need-size-at-requires
 size-at-requires c κs = search rules

@@ -1,6 +1,6 @@
 -- `window::close` meets its contract (`Turning`). Assumes nothing.
 use native.Mathlib.Omega.{arith}
-use Rattle.windows.proofs.Turning.{closed-already, not_there, no_room_lem, closes}
+use Rattle.windows.proofs.Turning.{closed_already, not_there, no_room_lem, closes}
 use borrow.Author.Rules.{rules}
 use Rattle.windows.proofs.window.close.Statement.{statement}
 use Rattle.windows.proofs.window.close.Tie as tie
@@ -14,7 +14,7 @@ enum_told c = search rules
 returns : tie.Need-returns
 returns c =
     let a = c.before.before.before.before in
-    closed-already a.args.turn a.requires.1.0 a.requires.1.1.0 a.requires.1.1.1 c.enum_told.given.1
+    closed_already a.args.turn a.requires.1.0 a.requires.1.1.0 a.requires.1.1.1 c.enum_told.given.1
 
 returns-2 : tie.Need-returns-2
 returns-2 c =

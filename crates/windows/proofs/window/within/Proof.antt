@@ -1,8 +1,8 @@
 -- `window::within` meets its contract: a stretch ends and a field is kept, or a byte is skipped (`Moves`). Assumes nothing.
 use native.Mathlib.Omega.{arith}
 use mathlib.Core.Path.{◌∙◌, sym}
-use Rattle.windows.proofs.Works.{works-then}
-use Rattle.windows.proofs.Moves.{goes_on, ends-here}
+use Rattle.windows.proofs.Works.{works_then}
+use Rattle.windows.proofs.Moves.{goes_on, ends_here}
 use borrow.Author.Rules.{rules}
 use Rattle.windows.proofs.window.within.Statement.{statement}
 use Rattle.windows.proofs.window.within.Tie as tie
@@ -34,9 +34,9 @@ returns c last g =
     let d = p.before.before in
     let s = p.put-stretch.ensures in
     let a = d.before.before.before.before in
-    let w = ends-here last g (sym d.before.goes_on.ensures ∙ d.if1.true) s.0 (omega (arith, s.1, a.requires.0.room)) in
+    let w = ends_here last g (sym d.before.goes_on.ensures ∙ d.if1.true) s.0 (omega (arith, s.1, a.requires.0.room)) in
     let n = c.before.before.between.ensures last g in
-    record { works = works-then w n.works; further = n.further }
+    record { works = works_then w n.works; further = n.further }
 
 returns-2 : tie.Need-returns-2
 returns-2 c last g =

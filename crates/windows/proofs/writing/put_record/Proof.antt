@@ -1,5 +1,5 @@
 -- `writing::put_record` meets its contract (`Written`). Assumes nothing.
-use Rattle.windows.proofs.Written.{record-put, record-none}
+use Rattle.windows.proofs.Written.{record_put, record_none}
 use borrow.Author.Rules.{rules}
 use Rattle.windows.proofs.writing.put_record.Statement.{statement}
 use Rattle.windows.proofs.writing.put_record.Tie as tie
@@ -32,10 +32,10 @@ returns : tie.Need-returns
 returns c =
     let d = c.before.before.before.before.before in
     let a = d.before.before.before.before in
-    record-put a.args.window.now a.args.at a.args.n d.if1.true a.requires.0 c.before.before.put.ensures
+    record_put a.args.window.now a.args.at a.args.n d.if1.true a.requires.0 c.before.before.put.ensures
 
 returns-2 : tie.Need-returns-2
-returns-2 c = let a = c.before.before.before.before.args in record-none a.window.now a.at a.n c.if1.false
+returns-2 c = let a = c.before.before.before.before.args in record_none a.window.now a.at a.n c.if1.false
 
 pub put-record-spec : {M : Type 1} → statement M
 put-record-spec =

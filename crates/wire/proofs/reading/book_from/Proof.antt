@@ -11,18 +11,18 @@ use Rattle.book.specs.declared.Book.{Book}
 use Rattle.book.specs.Book.{slots, empty_book}
 use Rattle.book.proofs.Joins.{empty_full}
 use Rattle.wire.specs.Bytes.{entry_from, entries_from, book_from}
-use Rattle.wire.proofs.Begun.{Begun, begun-none, begun-set, begun_all}
+use Rattle.wire.proofs.Begun.{Begun, begun_none, begun_set, begun_all}
 use Rattle.wire.proofs.Entries.{entries_more}
 use Rattle.wire.proofs.reading.book_from.Statement.{statement}
 use Rattle.wire.proofs.reading.book_from.Tie as tie
 
 start : (s : List ℕ) (b : Book) → b ≡ empty_book → Begun slots 0 b.entries (entries_from 0 s)
 unfolding entries_from
-start s b e = begun-none b.entries (ap (λ (b : Book). length b.entries) e ∙ empty_full)
+start s b e = begun_none b.entries (ap (λ (b : Book). length b.entries) e ∙ empty_full)
 
 more : (s : List ℕ) (es : List Entry) (e : Entry) (i : ℕ) → i < slots → e ≡ entry_from (take 20 (drop (i * 20) s))
     → Begun slots i es (entries_from i s) → Begun slots (i + 1) (set es i e) (entries_from (i + 1) s)
-more s es e i h q b = rw (add-one i, entries_more i s, ← q) (begun-set e h b)
+more s es e i h q b = rw (add-one i, entries_more i s, ← q) (begun_set e h b)
 
 all : (s : List ℕ) (b : Book) → Begun slots slots b.entries (entries_from slots s) → b ≡ book_from s
 all s b g = ap (λ (es : List Entry). record { entries = es }) (begun_all g)

@@ -6,7 +6,7 @@ use Rattle.strings.specs.Number.{Bytes}
 use Rattle.book.specs.Entry.{entry_of}
 use Rattle.book.proofs.Order.{same_entry}
 use Rattle.wire.specs.Bytes.{entry_from}
-use Rattle.wire.proofs.Entries.{day-lt, nine-high, nine-low}
+use Rattle.wire.proofs.Entries.{day_lt, nine_high, nine_low}
 use Rattle.wire.proofs.reading.entry_in.Statement.{statement}
 use Rattle.wire.proofs.reading.entry_in.Tie as tie
 
@@ -49,7 +49,7 @@ number-in-requires-3 c κs = search rules
 cast-t17 : tie.Need-overflow-cast-t17
 cast-t17 c =
     let k = c.before.before.before.before.before.before in
-    omega (arith, c.number-in3.ensures, day-lt k.before.args.s.now (λ i. (k.shared-slice-known.given i).fits) k.before.requires)
+    omega (arith, c.number-in3.ensures, day_lt k.before.args.s.now (λ i. (k.shared-slice-known.given i).fits) k.before.requires)
 
 shared-slice-read-t19 : tie.Need-shared-slice-read-t19
 shared-slice-read-t19 c = search rules
@@ -68,11 +68,11 @@ returns c =
     let h : Bytes s = (λ i. (k.shared-slice-known.given i).fits) in
     let l = k.before.requires in
     same_entry _ _
-    (n1.number_in.ensures ∙ sym (nine-low s 2 h (omega (arith, l))))
-    (n2.number-in2.ensures ∙ sym (nine-low s 11 h (omega (arith, l))))
+    (n1.number_in.ensures ∙ sym (nine_low s 2 h (omega (arith, l))))
+    (n2.number-in2.ensures ∙ sym (nine_low s 11 h (omega (arith, l))))
     n3.number-in3.ensures
-    (sym (nine-high s 2 h (omega (arith, l))))
-    (sym (nine-high s 11 h (omega (arith, l))))
+    (sym (nine_high s 2 h (omega (arith, l))))
+    (sym (nine_high s 11 h (omega (arith, l))))
 
 pub entry-in-spec : {M : Type 1} → statement M
 entry-in-spec =

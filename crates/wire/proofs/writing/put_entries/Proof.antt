@@ -12,14 +12,14 @@ use Rattle.book.specs.declared.Entry.{Entry}
 use Rattle.book.specs.Entry.{meaning, blank}
 use Rattle.book.specs.Book.{slots}
 use Rattle.wire.specs.Bytes.{entry_bytes, entries_bytes}
-use Rattle.wire.proofs.Begun.{Begun, begun-none, begun-part, begun_all, part_long}
+use Rattle.wire.proofs.Begun.{Begun, begun_none, begun_part, begun_all, part_long}
 use Rattle.wire.proofs.Entries.{entry_long, bytes_more}
 use Rattle.wire.proofs.writing.put_entries.Statement.{statement}
 use Rattle.wire.proofs.writing.put_entries.Tie as tie
 
 start : (es : List Entry) (out : List ℕ) → length out ≡ 480 → Begun 480 (0 * 20) out (entries_bytes (take 0 es))
 unfolding entries_bytes
-start es out h = begun-none out h
+start es out h = begun_none out h
 
 -- the next twenty, as the code counts them
 twenty : (i : ℕ) → i * 20 + 20 - i * 20 ≡ 20
@@ -33,7 +33,7 @@ more : (es : List Entry) (out last : List ℕ) (i : ℕ) → length es ≡ slots
     → Begun 480 ((i + 1) * 20) (put_mid (i * 20) (i * 20 + 20 - i * 20) out last) (entries_bytes (take (i + 1) es))
 more es out last i l h e b =
     let d : (i + 1) * 20 ≡ i * 20 + 20 = omega arith in
-    rw (twenty i, d, add-one i, bytes_more es i (omega (arith, l))) (begun-part (omega arith) (entry_long (meaning (get_or es i blank))) e b)
+    rw (twenty i, d, add-one i, bytes_more es i (omega (arith, l))) (begun_part (omega arith) (entry_long (meaning (get_or es i blank))) e b)
 
 all : (es : List Entry) (out : List ℕ) → length es ≡ slots → Begun 480 480 out (entries_bytes (take slots es)) → out ≡ entries_bytes es
 all es out l b = begun_all b ∙ ap entries_bytes (take_all slots es (omega (arith, l)))

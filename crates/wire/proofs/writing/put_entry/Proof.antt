@@ -6,7 +6,7 @@ use Prim.Native.Nat.{◌+◌, ◌*◌, ◌^◌}
 use native.Mathlib.Omega.{arith}
 use Rattle.strings.specs.Number.{bytes_of}
 use Rattle.wire.specs.Bytes.{entry_bytes}
-use Rattle.wire.proofs.Begun.{Begun, begun-none, begun-part, begun_number, begun_all}
+use Rattle.wire.proofs.Begun.{Begun, begun_none, begun_part, begun_number, begun_all}
 use Rattle.wire.proofs.writing.put_entry.Statement.{statement}
 use Rattle.wire.proofs.writing.put_entry.Tie as tie
 
@@ -65,9 +65,9 @@ returns c =
     let t₃ = bytes_of 9 (e.otop * 2 ^ 64 + e.odd) in
     let e₂ : c₂.put-nine.new.0 ≡ t₂ = c₂.put-nine.ensures in
     let e₃ : c₃.put-nine2.new.0 ≡ t₃ = c₃.put-nine2.ensures in
-    let u₁ : Begun 20 2 _ (bytes_of 2 e.day) = begun_number 2 e.day (omega arith) c₁.put-number.ensures (begun-none s.args.out.now s.requires) in
-    let u₂ : Begun 20 11 _ (bytes_of 2 e.day ++ t₂) = begun-part (omega arith) refl e₂ u₁ in
-    let u₃ : Begun 20 20 _ ((bytes_of 2 e.day ++ t₂) ++ t₃) = begun-part (omega arith) refl e₃ u₂ in
+    let u₁ : Begun 20 2 _ (bytes_of 2 e.day) = begun_number 2 e.day (omega arith) c₁.put-number.ensures (begun_none s.args.out.now s.requires) in
+    let u₂ : Begun 20 11 _ (bytes_of 2 e.day ++ t₂) = begun_part (omega arith) refl e₂ u₁ in
+    let u₃ : Begun 20 20 _ ((bytes_of 2 e.day ++ t₂) ++ t₃) = begun_part (omega arith) refl e₃ u₂ in
     begun_all u₃
 
 pub put-entry-spec : {M : Type 1} → statement M

@@ -8,7 +8,7 @@ use lib.Dec.{lit<, lit≤}
 use lib.ListN.{set}
 use borrow.Rule.Slice.PartMut.{put_mid}
 use Rattle.strings.specs.Number.{bytes_of}
-use Rattle.wire.proofs.Begun.{Begun, begun-none, begun-set, begun_number, begun_all}
+use Rattle.wire.proofs.Begun.{Begun, begun_none, begun_set, begun_number, begun_all}
 use Rattle.wire.proofs.Entries.{nine_put}
 use Rattle.wire.proofs.writing.put_nine.Statement.{statement}
 use Rattle.wire.proofs.writing.put_nine.Tie as tie
@@ -18,7 +18,7 @@ abbrev one : tie.After-slice-known → List ℕ
 one c = set c.before.args.out.now 0 c.before.args.top
 
 one_is : (c : tie.After-slice-known) → Begun 9 1 (one c) (c.before.args.top ∷ [])
-one_is c = begun-set c.before.args.top (lit< tt) (begun-none c.before.args.out.now c.before.requires)
+one_is c = begun_set c.before.args.top (lit< tt) (begun_none c.before.args.out.now c.before.requires)
 
 abbrev start : tie.After-slice-known2 → tie.After-slice-known
 start c = c.before.before.before.before

@@ -11,7 +11,7 @@ use Rattle.layout.specs.Layout.{layout, of_kind}
 use Rattle.words.specs.Values.{values_of, first_bad}
 use Rattle.records.specs.Records.{record_of}
 use Rattle.words.specs.Calls.{number_in}
-use Rattle.words.proofs.ReadAnswers.{reads-no, reads_on, reads-yes}
+use Rattle.words.proofs.ReadAnswers.{reads_no, reads_on, reads_yes}
 use borrow.Author.Rules.{rules}
 use Rattle.words.proofs.reading.read_whole.Statement.{statement}
 use Rattle.words.proofs.reading.read_whole.Tie as tie
@@ -36,13 +36,13 @@ found c =
 
 -- ---- the answers
 returns : tie.Need-returns
-returns c = reads-no 4 Number refl (eq-eqb _ 0 (sym c.before.number_in.ensures ∙ c.if1.true))
+returns c = reads_no 4 Number refl (eq-eqb _ 0 (sym c.before.number_in.ensures ∙ c.if1.true))
 
 is-of-kind-requires : tie.Need-is-of-kind-requires
 is-of-kind-requires c κs = search rules
 
 returns-2 : tie.Need-returns-2
-returns-2 c = reads_on 5 (numbered c.before.before) (reads-no 10 Place refl (sym (ap not (kinded c.before)) ∙ c.if2.true))
+returns-2 c = reads_on 5 (numbered c.before.before) (reads_no 10 Place refl (sym (ap not (kinded c.before)) ∙ c.if2.true))
 
 values-in-requires : tie.Need-values-in-requires
 values-in-requires c κs = search rules
@@ -55,7 +55,7 @@ returns-3 c =
     let d = c.before.before.before in
     let f = found c.before in
     reads_on 5 (numbered d.before.before) (reads_on 11 (sym (ap not (kinded d.before)) ∙ d.if2.false)
-    (reads-no 9 (Range c.before.first-bad.result) (ap (λ (p : ℕ). 10 ∷ p ∷ []) f) (ap not (ne_eqb _ 0 (λ q. c.if3.true (f ∙ q))))))
+    (reads_no 9 (Range c.before.first-bad.result) (ap (λ (p : ℕ). 10 ∷ p ∷ []) f) (ap not (ne_eqb _ 0 (λ q. c.if3.true (f ∙ q))))))
 
 record-of-requires : tie.Need-record-of-requires
 record-of-requires c κs = search rules
@@ -67,7 +67,7 @@ returns-4 c =
     let f = found c.before.before in
     reads_on 5 (numbered d.before.before) (reads_on 11 (sym (ap not (kinded d.before)) ∙ d.if2.false)
     (reads_on 10 (ap not (eq-eqb _ 0 (sym f ∙ c.before.if3.false)))
-    (reads-yes d.before.before.before.number_in.result c.record_of.result d.before.before.before.number_in.ensures
+    (reads_yes d.before.before.before.number_in.result c.record_of.result d.before.before.before.number_in.ensures
     (c.record_of.ensures ∙ ap (record_of s.k) c.before.before.before.values-in.ensures))))
 
 pub read-whole-spec : {M : Type 1} → statement M

@@ -14,7 +14,7 @@ use Rattle.layout.specs.declared.table.Word.{Word}
 use Rattle.layout.specs.Layout.{layout}
 use Rattle.words.specs.Values.{in_range, first_bad}
 use Rattle.layout.proofs.Rows.{layout_long}
-use Rattle.words.proofs.Loops.{bad-step, bad-found}
+use Rattle.words.proofs.Loops.{bad_step, bad_found}
 use Rattle.words.proofs.values.first_bad.Statement.{statement}
 use Rattle.words.proofs.values.first_bad.Tie as tie
 
@@ -70,7 +70,7 @@ loop-again c =
     let l = p.before.before.loop in
     let a = p.before.before.before.args in
     let t = sym (tried c.before) ∙ not-false _ c.if1.false in
-    let s = bad-step (layout a.k) a.t2 l.j p.word_at.result (in_layout p) (in_values p) p.word_at.ensures.0 t in
+    let s = bad_step (layout a.k) a.t2 l.j p.word_at.result (in_layout p) (in_values p) p.word_at.ensures.0 t in
     ((omega arith, l.invariant.0.1), sym s ∙ l.invariant.1)
 
 returns : tie.Need-returns invariant-loop decreases-loop
@@ -87,7 +87,7 @@ returns-2 c =
     let l = p.before.before.loop in
     let a = p.before.before.before.args in
     let t = sym (tried c.before) ∙ not-true _ c.if1.true in
-    sym (bad-found (layout a.k) a.t2 l.j p.word_at.result (in_layout p) (in_values p) p.word_at.ensures.0 t) ∙ l.invariant.1
+    sym (bad_found (layout a.k) a.t2 l.j p.word_at.result (in_layout p) (in_values p) p.word_at.ensures.0 t) ∙ l.invariant.1
 
 pub first-bad-spec : {M : Type 1} → statement M
 first-bad-spec =

@@ -12,7 +12,7 @@ use Rattle.strings.specs.Number.{number_of, word_of}
 use Rattle.layout.specs.Layout.{layout}
 use Rattle.words.specs.Values.{value_in, values_of}
 use Rattle.layout.proofs.Rows.{layout_long}
-use Rattle.words.proofs.Loops.{values_long, values-step}
+use Rattle.words.proofs.Loops.{values_long, values_step}
 use Rattle.words.proofs.WordBits.{word_lt}
 use Rattle.words.proofs.values.values_in.Statement.{statement}
 use Rattle.words.proofs.values.values_in.Tie as tie
@@ -60,7 +60,7 @@ loop-again c =
     let z : to_z w32 (of_z w32 c.value_of_lem.result) ≡ value_in w (word_of n w.top w.low) =
     to_z-of_z f ∙ c.value_of_lem.ensures ∙ ap (value_in w) c.before.word_in.ensures in (
       (omega arith, simp length-set l.invariant.0.1),
-      rw z (values-step (layout a.k) l.v l.j w (rw (layout_long a.k) h) (rw l.invariant.0.1 h) c.before.before.word_at.ensures.0 n l.invariant.1),
+      rw z (values_step (layout a.k) l.v l.j w (rw (layout_long a.k) h) (rw l.invariant.0.1 h) c.before.before.word_at.ensures.0 n l.invariant.1),
     )
 
 returns : tie.Need-returns invariant-loop decreases-loop

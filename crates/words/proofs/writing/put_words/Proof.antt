@@ -16,7 +16,7 @@ use Rattle.layout.specs.declared.table.Word.{Word}
 use Rattle.layout.specs.Layout.{layout}
 use Rattle.words.specs.Values.{code_in, data_of}
 use Rattle.layout.proofs.Rows.{layout_long}
-use Rattle.words.proofs.Loops.{data-step}
+use Rattle.words.proofs.Loops.{data_step}
 use Rattle.words.proofs.Carrying.{bytes_are, bytes_add}
 use Rattle.words.proofs.writing.put_words.Statement.{statement}
 use Rattle.words.proofs.writing.put_words.Tie as tie
@@ -84,7 +84,7 @@ step c =
     let j = p.before.before.loop.j in
     let h = p.before.loop-test.true in
     ap (λ (x : ℕ). x * 2 ^ (w.low + 2) + left p (j + 1)) (coded c)
-    ∙ data-step (layout a.k) a.t2 j w (rw (layout_long a.k) h) (rw (long p) h) p.word_at.ensures.0 p.word_at.ensures.1.first
+    ∙ data_step (layout a.k) a.t2 j w (rw (layout_long a.k) h) (rw (long p) h) p.word_at.ensures.0 p.word_at.ensures.1.first
 
 loop-again : tie.Need-loop-preserved invariant-loop decreases-loop
 loop-again c =

@@ -16,7 +16,7 @@ use Rattle.words.specs.Values.{first_bad, data_of}
 use Rattle.records.specs.Records.{kind_of, list_of}
 use Rattle.words.specs.Calls.{Writes, string_of}
 use Rattle.words.proofs.RecordLists.{string_lt}
-use Rattle.words.proofs.WriteAnswers.{write-no-room, write-no-place, write-no-range, write_done}
+use Rattle.words.proofs.WriteAnswers.{write_no_room, write_no_place, write_no_range, write_done}
 use borrow.Author.Rules.{rules}
 use Rattle.words.proofs.writing.write_words.Statement.{statement}
 use Rattle.words.proofs.writing.write_words.Tie as tie
@@ -66,7 +66,7 @@ made c =
 
 -- ---- the answers
 returns : tie.Need-returns
-returns c = let a = c.before.before.args in write-no-room a.m a.r a.out.now c.if1.true
+returns c = let a = c.before.before.args in write_no_room a.m a.r a.out.now c.if1.true
 
 kind-of-requires : tie.Need-kind-of-requires
 kind-of-requires c κs = search rules
@@ -77,7 +77,7 @@ is-of-kind-requires c κs = search rules
 returns-2 : tie.Need-returns-2
 returns-2 c =
     let a = c.before.before.before.before.before.args in
-    write-no-place a.m a.r a.out.now c.before.before.before.if1.false (sym (kinded c.before) ∙ not-true _ c.if2.true)
+    write_no_place a.m a.r a.out.now c.before.before.before.if1.false (sym (kinded c.before) ∙ not-true _ c.if2.true)
 
 list-of-requires : tie.Need-list-of-requires
 list-of-requires c κs = search rules
@@ -89,7 +89,7 @@ returns-3 : tie.Need-returns-3
 returns-3 c =
     let k = c.before.before.before in
     let a = k.before.before.before.before.before.args in
-    write-no-range a.m a.r a.out.now k.before.before.before.if1.false (of_kind_lem k)
+    write_no_range a.m a.r a.out.now k.before.before.before.if1.false (of_kind_lem k)
     c.before.first-bad.result (found c.before) c.if3.true
 
 assemble-requires : tie.Need-assemble-requires
