@@ -1,5 +1,7 @@
 // One block from standard input, of any length, handed to a fresh station by card one: a line for each
 // of its calls, and one for its end.
-fn main() {
-    requests::list_block();
+#![tactic(auto)]
+
+fn main(rt: HostRuntime) {
+    requests::list_block(&rt);
 }

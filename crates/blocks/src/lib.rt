@@ -1,4 +1,6 @@
 // A block of fields handed to a station: field by field, or whole.
+#![tactic(auto)]
+
 mod handing;
 mod taking;
 
@@ -11,7 +13,7 @@ pub use taking::take_field;
 
 // What a field leads to: the end of the block; an offer's own answer; a reset's own; a remark, which
 // has none; or what says no to the field, with its place.
-#[derive(Drop)]
+#[derive(Clone, Copy)]
 pub enum Told {
     End,
     Offered(Answer),
@@ -22,7 +24,7 @@ pub enum Told {
 
 // The station after a field, what the field led to, and the place of the next, which is its own where
 // it is refused and at the end.
-#[derive(Drop)]
+#[derive(Clone, Copy)]
 pub struct Taken {
     pub station: Station,
     pub told: Told,
@@ -30,14 +32,14 @@ pub struct Taken {
 }
 
 // How a block ended: whole, or with a field that is refused, at its place.
-#[derive(Drop)]
+#[derive(Clone, Copy)]
 pub enum Ended {
     Whole,
     Refused(Why, usize),
 }
 
 // The station after a block, and how it ended.
-#[derive(Drop)]
+#[derive(Clone, Copy)]
 pub struct Handed {
     pub station: Station,
     pub ended: Ended,

@@ -1,9 +1,11 @@
 // Dates: what so many days after 31 December 1995 are.
+#![tactic(auto)]
+
 ghost use Rattle.std.specs.Prelude.{◌≡◌, ◌≤◌, ◌<◌};
 ghost use Rattle.calendar.specs.Calendar.{date_of};
 ghost use Rattle.calendar.specs.FourYears.{IsMonth};
 
-#[derive(Drop)]
+#[derive(Clone, Copy)]
 pub struct Date {
     pub year: u32,
     pub month: u32,

@@ -1,4 +1,6 @@
 // One channel: its row, and what becomes of a string offered to it.
+#![tactic(auto)]
+
 mod completing;
 mod offering;
 mod placing;
@@ -16,7 +18,7 @@ use tallies::Tallies;
 // row. The record comes first so that both it and the strings begin at a whole word, which the card
 // copies four times as fast.
 #[repr(C)]
-#[derive(Drop)]
+#[derive(Clone, Copy)]
 pub struct Row {
     pub immediate: Immediate,
     pub strings: [u8; 165],
@@ -26,7 +28,7 @@ pub struct Row {
 }
 
 // The numbers of a row's frame, beside its strings: its start, and its mask.
-#[derive(Drop)]
+#[derive(Clone, Copy)]
 pub struct Head {
     pub start: u32,
     pub present: u16,
@@ -34,7 +36,7 @@ pub struct Head {
 
 // What becomes of a checked string: refused; held already; or new in the frame of a start, with the
 // mask of the strings that this frame has.
-#[derive(Drop)]
+#[derive(Clone, Copy)]
 pub enum Fate {
     Refused(Refusal),
     Held,
@@ -42,21 +44,21 @@ pub enum Fate {
 }
 
 // What is said of a plain string: m, the check's verdict and the news; or why not.
-#[derive(Drop)]
+#[derive(Clone, Copy)]
 pub enum Placed {
     Taken(u8, Verdict, News),
     Refused(Refusal),
 }
 
 // What is said of a string, and the numbers of the row after it.
-#[derive(Drop)]
+#[derive(Clone, Copy)]
 pub struct Moved {
     pub head: Head,
     pub answer: Placed,
 }
 
 // What a taken string brought.
-#[derive(Drop)]
+#[derive(Clone, Copy)]
 pub enum News {
     AlreadyHeld,
     Kept,
@@ -66,14 +68,14 @@ pub enum News {
 
 // The answer to an offer: m, the check's verdict, the news, and the polarity of the symbols; or why
 // not.
-#[derive(Drop)]
+#[derive(Clone, Copy)]
 pub enum Answer {
     Taken(u8, Verdict, News, Polarity),
     Refused(Refusal),
 }
 
 // An offer's answer, and the row after it.
-#[derive(Drop)]
+#[derive(Clone, Copy)]
 pub struct Offered {
     pub row: Row,
     pub answer: Answer,

@@ -1,4 +1,6 @@
 // The ranging code of ICD 3.3.2.1: 511 chips a millisecond, kept as a table.
+#![tactic(auto)]
+
 ghost use Rattle.std.specs.Prelude.{◌≡◌};
 ghost use Rattle.chips.specs.Register.{chip_of};
 

@@ -1,4 +1,6 @@
 // Numbers in decimal, as a navigation file has them: `sd.ddddddddddddDsee`.
+#![tactic(auto)]
+
 mod digits;
 mod number;
 mod rounding;

@@ -4,7 +4,7 @@ ghost use Prim.Native.Nat.{◌*◌, ◌^◌, ◌≤◌, ◌<◌, compare};
 ghost use Rattle.decimals.specs.Decimal.{to_nearest, figures_of, scale_of};
 
 // The figures, and by which power of ten the number was multiplied to have them before the point.
-#[derive(Drop)]
+#[derive(Clone, Copy)]
 pub struct Rounded {
     pub figures: u64,
     pub place: u32,

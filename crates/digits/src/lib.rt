@@ -1,5 +1,7 @@
 // Numbers in decimal, written into a lent text from the place `at` on. Each function answers the place
 // past what it wrote.
+#![tactic(auto)]
+
 ghost use Rattle.std.specs.Prelude.{◌+◌, ◌≤◌, ◌<◌, length};
 ghost use Rattle.digits.specs.Text.{cell, row, Puts};
 
@@ -8,7 +10,7 @@ pub fn put(text: &mut [u8], at: usize, s: &[u8]) -> usize
     requires { at + length s.now ≤ length text.old }
     ensures { Puts text.old at s.now text.new result }
 {
-    bytes::copy(s, &mut text[at..]);
+    text[at..at + s.len()].copy_from_slice(s);
     at + s.len()
 }
 

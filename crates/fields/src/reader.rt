@@ -6,7 +6,7 @@ ghost use Rattle.fields.specs.Fields.{Finds};
 use crate::finding::field_at;
 use crate::{Field, Found};
 
-#[derive(Drop)]
+#[derive(Clone, Copy)]
 pub struct Reader<'a> {
     pub src: &'a [u8],
     pub at: usize,

@@ -1,4 +1,6 @@
 // What is heard of the bytes that an offer brings: its string, as the check leaves it.
+#![tactic(auto)]
+
 ghost use Rattle.std.specs.Prelude.{◌≡◌, length};
 ghost use Rattle.hearing.specs.Hears.{Hears};
 

@@ -19,7 +19,7 @@ use told::refusal_told;
 use words::{Reading, number_in};
 
 // What a reading tells: 0 and the values, or the refusal's numbers in one.
-#[derive(Drop)]
+#[derive(Clone, Copy)]
 pub struct ReadOut {
     pub answer: u32,
     pub values: [i32; 8],

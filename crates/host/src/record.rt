@@ -6,7 +6,7 @@ use crate::reading::{float_at, read_kind};
 use records::Kind;
 
 // What four readings tell: 0 and the values of each, or the first refusal's numbers in one.
-#[derive(Drop)]
+#[derive(Clone, Copy)]
 pub struct FourRead {
     pub answer: u32,
     pub one: [i32; 8],

@@ -1,4 +1,6 @@
 // The immediate record: strings 1 to 4 of a frame, all in range.
+#![tactic(auto)]
+
 ghost use Rattle.std.specs.Prelude.{◌≡◌, ◌≤◌, length};
 ghost use Rattle.strings.specs.Number.{number_of};
 ghost use Rattle.records.specs.declared.kinds.Kind.TheVariants.{One, Two};
@@ -10,7 +12,7 @@ use words::word_in;
 // The strings 1 to 4 that the latest immediate record was read from, and the start of their frame.
 // Where their words are not in range, as in a reset row's zeros, there is no record.
 #[repr(C)]
-#[derive(Drop)]
+#[derive(Clone, Copy)]
 pub struct Immediate {
     pub strings: [u8; 44],
     pub start: u32,
@@ -66,7 +68,7 @@ pub fn first_four(all: [u8; 165], start: u32) -> Immediate
     ensures { result ≡ built_from start all }
 {
     let mut four = [0u8; 44];
-    bytes::copy(&all[0..44], &mut four);
+    four.copy_from_slice(&all[0..44]);
     Immediate {
         strings: four,
         start,

@@ -1,4 +1,6 @@
 // Where the words of the eight kinds of string stand, and which string numbers a kind has.
+#![tactic(auto)]
+
 mod kinds;
 mod table;
 

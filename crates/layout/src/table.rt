@@ -7,7 +7,7 @@ ghost use Rattle.layout.specs.Layout.{Placed, word, layout, none};
 use records::Kind;
 
 // How a word's bits are read, and which values it may have.
-#[derive(Drop)]
+#[derive(Clone, Copy)]
 pub enum Form {
     Plain, // a plain number
     Signed, // sign and magnitude
@@ -19,7 +19,7 @@ pub enum Form {
 }
 
 // A word: its form, its top bit and its low bit.
-#[derive(Drop)]
+#[derive(Clone, Copy)]
 pub struct Word {
     pub form: Form,
     pub top: u8,

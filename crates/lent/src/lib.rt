@@ -1,4 +1,6 @@
 // The station lent to a host in C: it lies in the host's memory, and is changed in its place.
+#![tactic(auto)]
+
 mod offering;
 mod resetting;
 mod telling;

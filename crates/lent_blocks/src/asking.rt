@@ -7,7 +7,7 @@ use fields::{Field, channel_in, epoch_in, next_at, symbols_in, why_number};
 
 // The number that is told of a field: 0 at the end of the block, its tag, or what says no to it. Of a
 // call the channel, and of an offer the epoch; they are 0 where there is none.
-#[derive(Drop)]
+#[derive(Clone, Copy)]
 pub struct Asked {
     pub told: u8,
     pub channel: u8,

@@ -1,4 +1,6 @@
 // A block handed to a lent station, field by field, for a host in C.
+#![tactic(auto)]
+
 mod asking;
 mod taking;
 

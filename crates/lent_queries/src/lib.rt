@@ -1,5 +1,7 @@
 // The calls of a host in C that ask a station which lies in the host's memory: it is only read, and of
 // it one row, one entry or the summary is copied.
+#![tactic(auto)]
+
 mod asking;
 mod copying;
 mod telling;

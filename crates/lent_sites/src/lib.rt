@@ -1,4 +1,6 @@
 // A station lent by a host in C: emptied, another site's book joined into its own, its own book as bytes.
+#![tactic(auto)]
+
 mod emptying;
 mod joining;
 mod sending;

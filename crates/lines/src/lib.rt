@@ -1,5 +1,7 @@
 // The listing: records of sixteen bytes offered to a station for card one, and a line of six numbers
 // for each.
+#![tactic(auto)]
+
 mod printing;
 mod records;
 mod stream;
@@ -8,7 +10,7 @@ use station::Station;
 pub use stream::list_input;
 
 // The six numbers, in the order in which they are printed.
-#[derive(Drop)]
+#[derive(Clone, Copy)]
 struct Line {
     channel: u8,
     epoch: u32,
@@ -19,14 +21,14 @@ struct Line {
 }
 
 // A record's line, and the station after it.
-#[derive(Drop)]
+#[derive(Clone, Copy)]
 struct Listed {
     station: Station,
     line: Line,
 }
 
 // The station after the records of an input, and how many bytes of the text their lines are.
-#[derive(Drop)]
+#[derive(Clone, Copy)]
 struct Printed {
     station: Station,
     end: usize,

@@ -1,4 +1,6 @@
 // The listing program again, on a stored input of 20,000 records.
-fn main() {
-    lines::list_input();
+#![tactic(auto)]
+
+fn main(rt: HostRuntime) {
+    lines::list_input(&rt);
 }

@@ -1,5 +1,7 @@
 // The calls that bench/ measures, exported for C. Each answers a number, so that no result is
 // left unused.
+#![tactic(auto)]
+
 mod parts;
 mod whole;
 

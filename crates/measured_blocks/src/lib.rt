@@ -1,5 +1,7 @@
 // The block that bench/ measures, exported for C: beside the offers of `measured` it would be compiled
 // together with them, and cost them what they share.
+#![tactic(auto)]
+
 ghost use Rattle.measured_blocks.specs.Told.{TellsBlock};
 
 use measured::top_of_slot_1;

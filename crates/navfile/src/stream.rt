@@ -5,7 +5,7 @@ ghost use Rattle.navfile.specs.Calls.{fresh_office};
 use crate::Office;
 use crate::capture::{write_last, write_records};
 use crate::header::put_header;
-use libc::{STDIN_FILENO, STDOUT_FILENO};
+use streams::{read_full, write_all};
 
 // 256 records.
 const BLOCK: usize = 4096;
@@ -20,7 +20,7 @@ const LAST: usize = 15360;
 const HEADER: usize = 243;
 
 // The office after a block, and whether another may follow.
-#[derive(Drop)]
+#[derive(Clone, Copy)]
 struct Turn {
     office: Office,
     more: bool,
@@ -36,21 +36,21 @@ fn fresh_office() -> Office
     }
 }
 
-fn write_header() {
+fn write_header<R: Print>(rt: &R) {
     let mut text = [0u8; HEADER];
     let end = put_header(&mut text);
-    io::write_all(STDOUT_FILENO, &text[..end]);
+    write_all(rt, &text[..end]);
 }
 
 // Reads a block and writes the records that are due. A block that is not full is the last.
-fn write_block(office: Office, card: u8) -> Turn {
+fn write_block<R: Input + Print>(rt: &R, office: Office, card: u8) -> Turn {
     let mut input = [0u8; BLOCK];
-    let got = io::read_full(STDIN_FILENO, &mut input);
+    let got = read_full(rt, &mut input);
     let mut text = [0u8; TEXT];
     let told = write_records(office, card, &input[..got], &mut text);
     let after = told.office;
     let end = told.end;
-    let is_written = io::write_all(STDOUT_FILENO, &text[..end]);
+    let is_written = write_all(rt, &text[..end]);
     if got < BLOCK {
         return Turn {
             office: after,
@@ -64,27 +64,27 @@ fn write_block(office: Office, card: u8) -> Turn {
 }
 
 // Writes what is due at the end of the input.
-fn write_end(office: Office, card: u8) {
+fn write_end<R: Print>(rt: &R, office: Office, card: u8) {
     let mut text = [0u8; LAST];
     let told = write_last(office, card, &mut text);
     let end = told.end;
-    io::write_all(STDOUT_FILENO, &text[..end]);
+    write_all(rt, &text[..end]);
 }
 
 // Writes the navigation file of standard input, of any length, offered by a card to a fresh station. It
 // returns nothing, and a contract cannot speak of what is read and written, so it promises only to end.
 // Nothing says that the input ends, so the blocks are counted down from a number that no run uses up.
-pub fn write_file(card: u8) {
-    write_header();
+pub fn write_file<R: Input + Print>(rt: &R, card: u8) {
+    write_header(rt);
     let mut office = fresh_office();
     let mut blocks = u64::MAX;
     while blocks > 0 {
-        let turn = write_block(office, card);
+        let turn = write_block(rt, office, card);
         office = turn.office;
         if !turn.more {
             break;
         }
         blocks -= 1;
     }
-    write_end(office, card);
+    write_end(rt, office, card);
 }

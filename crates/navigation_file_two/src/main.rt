@@ -1,4 +1,6 @@
 // The navigation file program for card two.
-fn main() {
-    navfile::write_file(2);
+#![tactic(auto)]
+
+fn main(rt: HostRuntime) {
+    navfile::write_file(&rt, 2);
 }

@@ -1,5 +1,7 @@
 // Two queries beside the station's own, for a navigation record: the words of string 5 of the frame that a
 // record was read from, and the carrier number of an entry.
+#![tactic(auto)]
+
 ghost use Rattle.std.specs.Prelude.{◌≡◌};
 ghost use Rattle.navigation_queries.specs.Five.{has_five, five_of, FindsFive};
 ghost use Rattle.navigation_queries.specs.Carrier.{FindsCarrier};
@@ -14,14 +16,14 @@ use strings::Refusal;
 use words::values_in;
 
 // The words of string 5, or why not.
-#[derive(Drop)]
+#[derive(Clone, Copy)]
 pub enum FiveFound {
     Found(String5),
     Refused(Refusal),
 }
 
 // The carrier number H of an entry, or why not.
-#[derive(Drop)]
+#[derive(Clone, Copy)]
 pub enum CarrierFound {
     Found(i32),
     Refused(Refusal),

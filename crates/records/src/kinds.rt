@@ -1,7 +1,7 @@
 // The eight kinds of string.
 
 // Strings 1 to 5, the even and the odd strings of an almanac entry, and string 14 of frame 5.
-#[derive(Drop)]
+#[derive(Clone, Copy)]
 pub enum Kind {
     One,
     Two,

@@ -1,4 +1,6 @@
 // The records of the eight kinds of string: their words by name, and as a list.
+#![tactic(auto)]
+
 mod kinds;
 mod named;
 

@@ -6,7 +6,7 @@ ghost use Rattle.records.specs.Records.{string1_of, string1_list, string2_of, st
 use crate::kinds::Kind;
 
 // String 1.
-#[derive(Drop)]
+#[derive(Clone, Copy)]
 pub struct String1 {
     pub p1: i32,
     pub tk: i32,
@@ -16,7 +16,7 @@ pub struct String1 {
 }
 
 // String 2.
-#[derive(Drop)]
+#[derive(Clone, Copy)]
 pub struct String2 {
     pub b: i32,
     pub p2: i32,
@@ -27,7 +27,7 @@ pub struct String2 {
 }
 
 // String 3.
-#[derive(Drop)]
+#[derive(Clone, Copy)]
 pub struct String3 {
     pub p3: i32,
     pub gamma: i32,
@@ -39,7 +39,7 @@ pub struct String3 {
 }
 
 // String 4.
-#[derive(Drop)]
+#[derive(Clone, Copy)]
 pub struct String4 {
     pub tau: i32,
     pub dtau: i32,
@@ -52,7 +52,7 @@ pub struct String4 {
 }
 
 // String 5. NA is the day of the four years.
-#[derive(Drop)]
+#[derive(Clone, Copy)]
 pub struct String5 {
     pub na: i32,
     pub tauc: i32,
@@ -62,7 +62,7 @@ pub struct String5 {
 }
 
 // An even string, 6 to 14: the first half of an almanac entry. nA is the slot.
-#[derive(Drop)]
+#[derive(Clone, Copy)]
 pub struct EvenString {
     pub c: i32,
     pub ma: i32,
@@ -74,7 +74,7 @@ pub struct EvenString {
 }
 
 // An odd string, 7 to 15: its second half.
-#[derive(Drop)]
+#[derive(Clone, Copy)]
 pub struct OddString {
     pub omega: i32,
     pub tlambda: i32,
@@ -85,7 +85,7 @@ pub struct OddString {
 }
 
 // String 14 of frame 5.
-#[derive(Drop)]
+#[derive(Clone, Copy)]
 pub struct String14 {
     pub b1: i32,
     pub b2: i32,
@@ -93,7 +93,7 @@ pub struct String14 {
 }
 
 // A record of any kind.
-#[derive(Drop)]
+#[derive(Clone, Copy)]
 pub enum Record {
     One(String1),
     Two(String2),
@@ -106,7 +106,7 @@ pub enum Record {
 }
 
 // The words of strings 1 to 4 together.
-#[derive(Drop)]
+#[derive(Clone, Copy)]
 pub struct ImmediateWords {
     pub one: String1,
     pub two: String2,

@@ -57,7 +57,7 @@ pub fn to_relative(s: &[u8], out: &mut [u8]) -> Written
     if bit(s, 85) == 1 {
         return Written::Refused(Refusal::Idle);
     }
-    bytes::copy(s, out);
+    out.copy_from_slice(s);
     send_symbols(out);
     Written::Done
 }

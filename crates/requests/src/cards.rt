@@ -14,7 +14,7 @@ const HIGHER: u8 = 32;
 const NONE: u8 = 0;
 
 // A request, the card that asks, and the place in the payload where the request's own begins.
-#[derive(Drop)]
+#[derive(Clone, Copy)]
 pub(crate) struct Asking {
     pub(crate) request: u8,
     pub(crate) card: u8,

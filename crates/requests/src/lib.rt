@@ -2,6 +2,8 @@
 // Requests come one after another on standard input, and each is answered by one line of output, but a
 // block by a line for each of its calls and one for its end. They speak for card one, or name the card
 // (`cards`). Or one block alone, of any length, for card one.
+#![tactic(auto)]
+
 mod answers;
 mod block_calls;
 mod block_stream;
@@ -30,7 +32,6 @@ use block_calls::block_call;
 pub use block_stream::list_block;
 use cards::who_asks;
 use float_calls::{float_call, record_call};
-use libc::{STDIN_FILENO, STDOUT_FILENO};
 use line::{Text, put_text};
 use navigation_calls::navigation_call;
 use numbers::pair;
@@ -41,11 +42,12 @@ pub use sky_stream::write_sky;
 use station::Station;
 use station_calls::{Answered, fresh_call, offer_call, reset_call};
 use station_queries::{query_call, summary_call};
+use streams::{read_full, write_all};
 use string_calls::string_call;
 use word_calls::{read_call, write_call};
 
 // The station after a turn, the one that is set aside, and whether another request may follow.
-#[derive(Drop)]
+#[derive(Clone, Copy)]
 pub(crate) struct Turned {
     pub(crate) station: Station,
     pub(crate) aside: Station,
@@ -88,25 +90,25 @@ fn told(request: u8, card: u8, payload: &[u8], st: Station, text: &mut Text) -> 
 }
 
 // Ends the line and writes it.
-pub(crate) fn print(text: &mut Text, n: usize)
+pub(crate) fn print<R: Print>(rt: &R, text: &mut Text, n: usize)
     requires { n ≤ 512 }
 {
     let end = put_text(text, n, b"\n");
-    write_start(text, end);
+    write_start(rt, text, end);
 }
 
 // The text is a slice here, because a part of an array behind a reference cannot be lent.
-fn write_start(text: &[u8], n: usize)
+fn write_start<R: Print>(rt: &R, text: &[u8], n: usize)
     requires { n ≤ length text.now }
 {
-    io::write_all(STDOUT_FILENO, &text[0..n]);
+    write_all(rt, &text[0..n]);
 }
 
 // The input stopped within a request, of which this many bytes came.
-fn print_short(count: usize) {
+fn print_short<R: Print>(rt: &R, count: usize) {
     let mut text = [0u8; 512];
     let n = say_short(&mut text, count);
-    print(&mut text, n);
+    print(rt, &mut text, n);
 }
 
 // After the last turn.
@@ -119,29 +121,36 @@ fn ended(st: Station, aside: Station) -> Turned {
 }
 
 // Reads the payload, of which the size is known, and prints what the request is answered.
-fn finish(op: u8, size: usize, space: &mut [u8], st: Station, aside: Station) -> Turned
+fn finish<R: Input + Print>(
+    rt: &R,
+    op: u8,
+    size: usize,
+    space: &mut [u8],
+    st: Station,
+    aside: Station,
+) -> Turned
     requires { (size < 65536) × (size ≤ length space.old) }
 {
     let payload = &mut space[0..size];
-    let got = io::read_full(STDIN_FILENO, payload);
+    let got = read_full(rt, payload);
     if got < size {
-        print_short(3 + got);
+        print_short(rt, 3 + got);
         return ended(st, aside);
     }
-    turned_by(op, payload, st, aside)
+    turned_by(rt, op, payload, st, aside)
 }
 
 // The two stations after one whole request, of which the lines are printed.
-fn turned_by(op: u8, payload: &[u8], st: Station, aside: Station) -> Turned {
+fn turned_by<R: Print>(rt: &R, op: u8, payload: &[u8], st: Station, aside: Station) -> Turned {
     match op {
-        21 => exchange_call(payload, st, aside),
+        21 => exchange_call(rt, payload, st, aside),
         22 => Turned {
-            station: join_call(payload, st, aside),
+            station: join_call(rt, payload, st, aside),
             aside,
             more: true,
         },
         _ => Turned {
-            station: print_answer(op, payload, st),
+            station: print_answer(rt, op, payload, st),
             aside,
             more: true,
         },
@@ -149,17 +158,17 @@ fn turned_by(op: u8, payload: &[u8], st: Station, aside: Station) -> Turned {
 }
 
 // Prints the line for one whole request, or the lines of a block, and answers the station after it.
-fn print_answer(op: u8, payload: &[u8], st: Station) -> Station {
+fn print_answer<R: Print>(rt: &R, op: u8, payload: &[u8], st: Station) -> Station {
     let asking = who_asks(op, payload);
     let from = asking.from;
     let own = &payload[from..];
     if asking.request == 13 {
-        return block_call(asking.card, own, st);
+        return block_call(rt, asking.card, own, st);
     }
     let mut text = [0u8; 512];
     let answered = answer(asking.request, asking.card, own, st, &mut text);
     let n = line_or_bad(&mut text, answered.used, op);
-    print(&mut text, n);
+    print(rt, &mut text, n);
     answered.station
 }
 
@@ -175,29 +184,29 @@ fn line_or_bad(text: &mut Text, n: usize, op: u8) -> usize
 }
 
 // Reads one request and prints its line.
-fn turn(space: &mut [u8; 65536], st: Station, aside: Station) -> Turned {
+fn turn<R: Input + Print>(rt: &R, space: &mut [u8; 65536], st: Station, aside: Station) -> Turned {
     let mut head = [0u8; 3];
-    let got = io::read_full(STDIN_FILENO, &mut head);
+    let got = read_full(rt, &mut head);
     if got == 0 {
         return ended(st, aside);
     }
     if got < 3 {
-        print_short(got);
+        print_short(rt, got);
         return ended(st, aside);
     }
-    finish(head[0], pair(head[1], head[2]), space, st, aside)
+    finish(rt, head[0], pair(head[1], head[2]), space, st, aside)
 }
 
 // Answers every request, by a station that is fresh at the start, and one set aside that is fresh too.
-pub fn answer_all() {
-    answer_from(station::fresh());
+pub fn answer_all<R: Input + Print>(rt: &R) {
+    answer_from(rt, station::fresh());
 }
 
 // Answers every request, by a station that begins as it is handed over, and one set aside that is fresh.
 // It returns nothing and only reads and writes, of which no contract can speak: it promises nothing but
 // to end. Nothing says that the input ends, so the turns are counted down from a number that no run uses
 // up.
-pub fn answer_from(st: Station) {
+pub fn answer_from<R: Input + Print>(rt: &R, st: Station) {
     let mut space = io::large_buffer();
     let mut turned = Turned {
         station: st,
@@ -208,7 +217,7 @@ pub fn answer_from(st: Station) {
     while turns > 0 && turned.more {
         let st = turned.station;
         let aside = turned.aside;
-        let next = turn(&mut space, st, aside);
+        let next = turn(rt, &mut space, st, aside);
         turned = next;
         turns -= 1;
     }

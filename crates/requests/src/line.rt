@@ -20,7 +20,7 @@ pub(crate) fn put_text(text: &mut Text, at: usize, s: &[u8]) -> usize
 fn copy_to(text: &mut [u8], at: usize, s: &[u8])
     requires { at + length s.now ≤ length text.old }
 {
-    bytes::copy(s, &mut text[at..]);
+    text[at..at + s.len()].copy_from_slice(s);
 }
 
 // A number in decimal.

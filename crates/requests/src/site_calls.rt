@@ -7,11 +7,16 @@ use station::Station;
 use wire::{book_bytes, book_from};
 
 // Request 21, no payload: the two stations change places.
-pub(crate) fn exchange_call(payload: &[u8], st: Station, aside: Station) -> Turned {
+pub(crate) fn exchange_call<R: Print>(
+    rt: &R,
+    payload: &[u8],
+    st: Station,
+    aside: Station,
+) -> Turned {
     let mut text = [0u8; 512];
     if payload.len() != 0 {
         let n = say_bad(&mut text, 21);
-        print(&mut text, n);
+        print(rt, &mut text, n);
         return Turned {
             station: st,
             aside,
@@ -19,7 +24,7 @@ pub(crate) fn exchange_call(payload: &[u8], st: Station, aside: Station) -> Turn
         };
     }
     let n = say_ok(&mut text);
-    print(&mut text, n);
+    print(rt, &mut text, n);
     Turned {
         station: aside,
         aside: st,
@@ -29,17 +34,17 @@ pub(crate) fn exchange_call(payload: &[u8], st: Station, aside: Station) -> Turn
 
 // Request 22, no payload: the book of the one set aside, as the bytes that a site sends, is joined into
 // the one in use, which is then asked for its summary.
-pub(crate) fn join_call(payload: &[u8], st: Station, aside: Station) -> Station {
+pub(crate) fn join_call<R: Print>(rt: &R, payload: &[u8], st: Station, aside: Station) -> Station {
     let mut text = [0u8; 512];
     if payload.len() != 0 {
         let n = say_bad(&mut text, 22);
-        print(&mut text, n);
+        print(rt, &mut text, n);
         return st;
     }
     let theirs = aside.book;
     let sent = book_bytes(theirs);
     let joined = join_site(st, book_from(sent));
     let n = summary_call(1, payload, joined, &mut text);
-    print(&mut text, n);
+    print(rt, &mut text, n);
     joined
 }

@@ -2,24 +2,24 @@
 use crate::answers::{say_no, say_short};
 use crate::print;
 use crate::sky_words::{SKY_BYTES, sky_from};
-use libc::{STDIN_FILENO, STDOUT_FILENO};
 use sky::{Made, make_sky};
+use streams::{read_full, write_all};
 
 const BLOCK: usize = 4096;
 
 // Reads a block that nobody looks at, and answers how many bytes came.
-fn read_on() -> usize {
+fn read_on<R: Input>(rt: &R) -> usize {
     let mut block = [0u8; BLOCK];
-    io::read_full(STDIN_FILENO, &mut block)
+    read_full(rt, &mut block)
 }
 
 // How many bytes are still to come. Nothing says that the input ends, so the blocks are counted down from
 // a number that no run uses up.
-fn count_rest() -> usize {
+fn count_rest<R: Input>(rt: &R) -> usize {
     let mut count = 0usize;
     let mut blocks = u64::MAX;
     while blocks > 0 {
-        let got = read_on();
+        let got = read_on(rt);
         count = std::num::wrapping_add_usize(count, got);
         if got < BLOCK {
             break;
@@ -31,33 +31,33 @@ fn count_rest() -> usize {
 
 // Writes the symbols, or prints why not. It returns nothing and only reads and writes, of which no
 // contract can speak: it promises nothing but to end.
-pub fn write_sky() {
+pub fn write_sky<R: Input + Print>(rt: &R) {
     let mut words = [0u8; SKY_BYTES];
-    let got = io::read_full(STDIN_FILENO, &mut words);
-    let count = std::num::wrapping_add_usize(got, count_rest());
+    let got = read_full(rt, &mut words);
+    let count = std::num::wrapping_add_usize(got, count_rest(rt));
     if count != SKY_BYTES {
         let mut text = [0u8; 512];
         let n = say_short(&mut text, count);
-        print(&mut text, n);
+        print(rt, &mut text, n);
         return;
     }
     let mut out = [0u8; 15000];
     let made = make_sky(sky_from(&words), &mut out);
-    write_made(made, &out);
+    write_made(rt, made, &out);
 }
 
-fn write_made(made: Made, out: &[u8]) {
+fn write_made<R: Print>(rt: &R, made: Made, out: &[u8]) {
     match made {
         Made::Done => {
-            io::write_all(STDOUT_FILENO, out);
+            write_all(rt, out);
         }
         Made::Refused(r) => {
             let mut text = [0u8; 512];
             let n = say_no(&mut text, r);
-            print(&mut text, n);
+            print(rt, &mut text, n);
         }
         Made::OutOfOrder => {
-            io::write_all(STDOUT_FILENO, b"no 18\n");
+            write_all(rt, b"no 18\n");
         }
     }
 }

@@ -8,7 +8,7 @@ use fields::{channel_in, epoch_in};
 use station::Station;
 
 // The station after a request, and how much of the text its line takes.
-#[derive(Drop)]
+#[derive(Clone, Copy)]
 pub(crate) struct Answered {
     pub(crate) station: Station,
     pub(crate) used: usize,

@@ -7,7 +7,7 @@ use crate::words_taken::write_kind;
 use records::Kind;
 
 // The kind that a request names, 1 to 8.
-#[derive(Drop)]
+#[derive(Clone, Copy)]
 enum Asked {
     Known(Kind),
     Unknown,

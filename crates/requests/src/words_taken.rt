@@ -13,7 +13,7 @@ use records::{
 use strings::wide;
 
 // The words of a request, as many as the longest kind has.
-#[derive(Drop)]
+#[derive(Clone, Copy)]
 pub(crate) struct Words {
     first: i32,
     second: i32,

@@ -4,7 +4,7 @@ ghost use Rattle.rinex.specs.Times.{InFourYears, moment_of, epoch_of, frame_time
 
 use calendar::date_of;
 
-#[derive(Drop)]
+#[derive(Clone, Copy)]
 pub struct Epoch {
     pub year: u32,
     pub month: u32,

@@ -1,5 +1,7 @@
 // What can still be read of a torn file of fields: the fields found are copied to an output, and the
 // stretches between them that are skipped go to a list.
+#![tactic(auto)]
+
 mod salvaging;
 mod searching;
 mod writing;
@@ -10,7 +12,7 @@ pub use writing::end_number;
 
 // How a salvage ended: the whole file is told, or there was no room in the output for the field at this
 // byte of the file, or none in the list for the stretch that starts at it.
-#[derive(Drop)]
+#[derive(Clone, Copy)]
 pub enum Ended {
     Whole,
     OutputFull(usize),
@@ -18,7 +20,7 @@ pub enum Ended {
 }
 
 // How many bytes and how many stretches are written, and how it ended.
-#[derive(Drop)]
+#[derive(Clone, Copy)]
 pub struct Salvaged {
     pub written: usize,
     pub stretches: usize,

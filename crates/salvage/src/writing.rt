@@ -11,7 +11,7 @@ pub(crate) fn put_field(file: &[u8], at: usize, n: usize, out: &mut [u8], w: usi
 {
     let e = at + n;
     let f = w + n;
-    bytes::copy(&file[at..e], &mut out[w..f]);
+    out[w..f].copy_from_slice(&file[at..e]);
 }
 
 // Stretch number k of the list: its first byte and its count.

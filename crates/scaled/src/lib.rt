@@ -1,4 +1,6 @@
 // The signed words as 64-bit floats: each raw number times its unit, without rounding.
+#![tactic(auto)]
+
 mod scaling;
 mod table;
 

@@ -5,7 +5,7 @@ ghost use Rattle.scaled.specs.Units.{IsListed};
 use records::Kind;
 
 // A signed word: its kind, its place in that kind, and its unit 2 ^ -unit.
-#[derive(Drop)]
+#[derive(Clone, Copy)]
 pub struct SignedWord(pub Kind, pub usize, pub u32);
 
 const WORDS: [SignedWord; 22] = [

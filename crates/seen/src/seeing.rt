@@ -10,7 +10,7 @@ use hearing::hear;
 use relative::polarity_number;
 use strings::{Checked, Refusal, Verdict};
 
-#[derive(Drop)]
+#[derive(Clone, Copy)]
 pub struct Seen {
     pub repaired: u8,
     pub m: u8,

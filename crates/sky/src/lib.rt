@@ -1,4 +1,6 @@
 // The line symbols of one satellite's superframe, from words alone.
+#![tactic(auto)]
+
 mod line;
 mod making;
 
@@ -7,7 +9,7 @@ use strings::Refusal;
 
 // The answer of the making: the symbols are written, or the entries are not slots 1 to 24 in order, or
 // why not. RANGE tells the place of the string, 1 to 75.
-#[derive(Drop)]
+#[derive(Clone, Copy)]
 pub enum Made {
     Done,
     OutOfOrder,

@@ -37,5 +37,5 @@ pub fn write_line(s: &[u8], out: &mut [u8], at: usize)
     write_halves(s, out, at);
     let a = at + 170;
     let e = at + 200;
-    bytes::copy(&MARK, &mut out[a..e]);
+    out[a..e].copy_from_slice(&MARK);
 }

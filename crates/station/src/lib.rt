@@ -1,5 +1,7 @@
 // The station of two cards: a row for each of their 48 channels, one book and its summary. Strings go in by card
 // and channel; the book, what it holds in short, the records, the tallies and the health of a satellite come out.
+#![tactic(auto)]
+
 mod entering;
 mod offering;
 mod queries;
@@ -25,7 +27,7 @@ pub const CHANNELS: usize = 2 * CARD_CHANNELS;
 // All that the cards know: a row for each channel, the almanac book that they share, and the book's
 // summary.
 #[repr(C)]
-#[derive(Drop)]
+#[derive(Clone, Copy)]
 pub struct Station {
     pub rows: [Row; CHANNELS],
     pub book: Book,
@@ -33,56 +35,56 @@ pub struct Station {
 }
 
 // Where a call on a channel enters: at the row of this index, or not, and why.
-#[derive(Drop)]
+#[derive(Clone, Copy)]
 pub enum Gate {
     Open(usize),
     Shut(Refusal),
 }
 
 // An offer's answer, and the station after it.
-#[derive(Drop)]
+#[derive(Clone, Copy)]
 pub struct Stepped {
     pub station: Station,
     pub answer: Answer,
 }
 
 // A reset's answer, and the station after it.
-#[derive(Drop)]
+#[derive(Clone, Copy)]
 pub struct Emptied {
     pub station: Station,
     pub answer: Written,
 }
 
 // The words of a channel's immediate record and the start of its frame, or why not.
-#[derive(Drop)]
+#[derive(Clone, Copy)]
 pub enum RecordFound {
     Found(ImmediateWords, u32),
     Refused(Refusal),
 }
 
 // The entry of a slot, or why not.
-#[derive(Drop)]
+#[derive(Clone, Copy)]
 pub enum EntryFound {
     Found(Entry),
     Refused(Refusal),
 }
 
 // A channel's tallies, or why not.
-#[derive(Drop)]
+#[derive(Clone, Copy)]
 pub enum TalliesFound {
     Found(Tallies),
     Refused(Refusal),
 }
 
 // The book's summary, or why not.
-#[derive(Drop)]
+#[derive(Clone, Copy)]
 pub enum SummaryFound {
     Found(Summary),
     Refused(Refusal),
 }
 
 // The health of a channel's satellite.
-#[derive(Drop)]
+#[derive(Clone, Copy)]
 pub enum Health {
     Unknown,
     Usable,
@@ -90,7 +92,7 @@ pub enum Health {
 }
 
 // The health, or why not.
-#[derive(Drop)]
+#[derive(Clone, Copy)]
 pub enum HealthFound {
     Found(Health),
     Refused(Refusal),

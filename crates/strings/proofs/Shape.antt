@@ -39,9 +39,9 @@ shape_is s b = (
 pub string_shaped : (n : ℕ) → n < 2 ^ 85 → misshapen (bytes_of_string n) ≡ false
 string_shaped n h = well_made (bytes_of_string n) (string_length n) (string_padding n h)
 
--- the code asks `not r`, where the answer r is `not` of the test m
-pub shape_told : {m r t : Bool} → r ≡ not m → not r ≡ t → m ≡ t
-shape_told {m} e f = sym (not-not m) ∙ ap not (sym e) ∙ f
+-- the answer r is `not` of the test m
+pub shape_told : {m r t : Bool} → r ≡ not m → r ≡ not t → m ≡ t
+shape_told {m} {t = t} e f = sym (not-not m) ∙ ap not (sym e ∙ f) ∙ not-not t
 
 -- ---- the room
 pub has_room_lem : (out : List ℕ) → length out ≡ 11 → no_room out ≡ false

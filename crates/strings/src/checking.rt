@@ -35,7 +35,7 @@ fn take(s: &[u8], v: Verdict, out: &mut [u8]) -> Checked
     if idle_after(s, v) == 1 {
         return Checked::Refused(Refusal::Idle);
     }
-    bytes::copy(s, out);
+    out.copy_from_slice(s);
     mend(out, v);
     Checked::Taken(v)
 }

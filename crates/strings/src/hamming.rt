@@ -9,7 +9,7 @@ use crate::bits::{flip_bit, word_in};
 
 // Why a string is damaged: no sum but C is set; sums are set but C is not, as an even number of
 // wrong bits leaves them; the sums name a place above 85.
-#[derive(Drop)]
+#[derive(Clone, Copy)]
 pub enum Damage {
     Unplaced,
     Even,
@@ -17,14 +17,14 @@ pub enum Damage {
 }
 
 // What the sums say of a string.
-#[derive(Drop)]
+#[derive(Clone, Copy)]
 pub enum Ruling {
     Sound(Verdict),
     Damaged(Damage),
 }
 
 // C7..C1 read as the number S, and C.
-#[derive(Drop)]
+#[derive(Clone, Copy)]
 struct Sums {
     s: u8,
     c: u8,

@@ -1,6 +1,8 @@
 // The 85-bit navigation string of GLONASS: its bits, check and repair, and the numbers that say no.
 // A string is eleven bytes: bit 85 is the top bit of the first, the last three bits of the eleventh
 // are padding.
+#![tactic(auto)]
+
 mod bits;
 mod checking;
 mod hamming;
@@ -13,7 +15,7 @@ pub use numbers::{refusal_number, wide};
 
 // The numbers that say no, in the paper's order. DAMAGED has a number for each cause. RANGE tells its
 // place: the top bit number of the word that failed.
-#[derive(Drop)]
+#[derive(Clone, Copy)]
 pub enum Refusal {
     Channel,
     Shape,
@@ -34,21 +36,21 @@ pub enum Refusal {
 }
 
 // What the check says of a string that it takes: as it came, or with the bit that it repaired.
-#[derive(Drop)]
+#[derive(Clone, Copy)]
 pub enum Verdict {
     Clean,
     Repaired(u8),
 }
 
 // The check's answer.
-#[derive(Drop)]
+#[derive(Clone, Copy)]
 pub enum Checked {
     Taken(Verdict),
     Refused(Refusal),
 }
 
 // The answer of a call that only writes.
-#[derive(Drop)]
+#[derive(Clone, Copy)]
 pub enum Written {
     Done,
     Refused(Refusal),

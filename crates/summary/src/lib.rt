@@ -1,4 +1,6 @@
 // The summary of a book: how many slots are filled, the oldest day and the newest.
+#![tactic(auto)]
+
 mod lending;
 mod lines;
 mod walking;
@@ -8,7 +10,7 @@ pub use walking::walk;
 
 // How many lines hold an entry, the oldest of their days and the newest: 0, 0, 0 where none does.
 #[repr(C)]
-#[derive(Drop)]
+#[derive(Clone, Copy)]
 pub struct Summary {
     pub count: u64,
     pub oldest: u16,

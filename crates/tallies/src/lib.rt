@@ -1,4 +1,6 @@
 // A channel's tallies: true counts that stay at their limit.
+#![tactic(auto)]
+
 mod counting;
 
 pub use counting::{count_refused, count_taken, none_counted};
@@ -7,7 +9,7 @@ pub use counting::{count_refused, count_taken, none_counted};
 // refused ones by cause. A reset leaves all fourteen at 0. They are the last of a row, each a word of four
 // bytes, where a host in C reads them.
 #[repr(C)]
-#[derive(Drop)]
+#[derive(Clone, Copy)]
 pub struct Tallies {
     pub offered: u32,
     pub clean: u32,
@@ -19,7 +21,7 @@ pub struct Tallies {
 // One tally for each refusal that an offer on a valid channel can get, in the order of the tests: 2; 31,
 // 32 and 33, which are DAMAGED; 4 to 9.
 #[repr(C)]
-#[derive(Drop)]
+#[derive(Clone, Copy)]
 pub struct Causes {
     pub shape: u32,
     pub unplaced: u32,

@@ -1,4 +1,6 @@
 // Makes any public call from standard input.
-fn main() {
-    requests::answer_all();
+#![tactic(auto)]
+
+fn main(rt: HostRuntime) {
+    requests::answer_all(&rt);
 }

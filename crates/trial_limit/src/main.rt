@@ -1,5 +1,7 @@
 // `trial` again, on a station that is fresh but for its tallies, which all stand near their limit: no run
 // reaches it from 0.
+#![tactic(auto)]
+
 use station::Station;
 use tallies::{Causes, Tallies};
 
@@ -27,10 +29,10 @@ fn near_limit() -> Tallies {
     }
 }
 
-fn main() {
+fn main(rt: HostRuntime) {
     let mut row = channel::empty_row();
     row.tallies = near_limit();
     let mut st = station::fresh();
     st.rows = [row; station::CHANNELS];
-    requests::answer_from(st);
+    requests::answer_from(&rt, st);
 }

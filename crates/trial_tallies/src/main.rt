@@ -1,4 +1,6 @@
 // `trial` again, on 65,540 strings of one channel, each repaired: more than 16 bits count.
-fn main() {
-    requests::answer_all();
+#![tactic(auto)]
+
+fn main(rt: HostRuntime) {
+    requests::answer_all(&rt);
 }

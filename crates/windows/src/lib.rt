@@ -1,4 +1,6 @@
 // A torn file of any length, salvaged a window of it at a time.
+#![tactic(auto)]
+
 mod stream;
 mod window;
 mod writing;
@@ -7,7 +9,7 @@ pub use stream::salvage_input;
 
 // What is written of a file: the fields that are kept; a line for each stretch that is skipped; or the
 // sixteen bytes of each offer that is kept.
-#[derive(Drop)]
+#[derive(Clone, Copy)]
 pub enum Wanted {
     Fields,
     Stretches,
@@ -15,7 +17,7 @@ pub enum Wanted {
 }
 
 // Where the work stands: between two items, or within a stretch that began at this byte of the file.
-#[derive(Drop)]
+#[derive(Clone, Copy)]
 pub enum Stands {
     Between,
     Since(usize),
@@ -23,7 +25,7 @@ pub enum Stands {
 
 // How many bytes of a window are passed and how many of the output are written, and where the work
 // stands.
-#[derive(Drop)]
+#[derive(Clone, Copy)]
 pub struct Turn {
     pub passed: usize,
     pub written: usize,

@@ -4,7 +4,7 @@ ghost use Rattle.windows.specs.Held.{Holds, Follows, Passing};
 
 use crate::window::salvage_window;
 use crate::{Stands, Turn, Wanted};
-use libc::{STDIN_FILENO, STDOUT_FILENO};
+use streams::{read_full, write_all};
 
 // 256 KiB. What is not passed of it stays for the next turn.
 const WINDOW: usize = 262144;
@@ -17,7 +17,7 @@ const LIMIT: usize = 9223372036854775808;
 
 // The place in the file of the window's first byte, how many bytes of the window are there, where the
 // work stands, and whether there is more to do.
-#[derive(Drop)]
+#[derive(Clone, Copy)]
 struct Held {
     first: usize,
     count: usize,
@@ -27,7 +27,7 @@ struct Held {
 
 // What is wanted of standard input, of any length. It returns nothing, and a contract cannot speak of
 // what is read and written, so it promises only to end: a turn that passes no byte is the last.
-pub fn salvage_input(wanted: Wanted) {
+pub fn salvage_input<R: Input + Print>(rt: &R, wanted: Wanted) {
     let mut window = [0u8; WINDOW];
     let mut out = [0u8; OUT];
     let mut held = Held {
@@ -37,30 +37,42 @@ pub fn salvage_input(wanted: Wanted) {
         more: true,
     };
     while held.more && held.first < LIMIT {
-        let next = turn_over(wanted, &mut window, &mut out, held);
+        let next = turn_over(rt, wanted, &mut window, &mut out, held);
         held = next;
     }
 }
 
 // They are slices below, because a part of an array behind a reference cannot be lent.
-fn turn_over(wanted: Wanted, window: &mut [u8; WINDOW], out: &mut [u8; OUT], held: Held) -> Held
+fn turn_over<R: Input + Print>(
+    rt: &R,
+    wanted: Wanted,
+    window: &mut [u8; WINDOW],
+    out: &mut [u8; OUT],
+    held: Held,
+) -> Held
     requires { Holds 262144 held }
     ensures { Follows 262144 held result }
 {
-    pass_window(wanted, window, out, held)
+    pass_window(rt, wanted, window, out, held)
 }
 
 // Fills the window, works on it, and prints. Where the window is not full the file has ended.
-fn pass_window(wanted: Wanted, window: &mut [u8], out: &mut [u8], held: Held) -> Held
+fn pass_window<R: Input + Print>(
+    rt: &R,
+    wanted: Wanted,
+    window: &mut [u8],
+    out: &mut [u8],
+    held: Held,
+) -> Held
     requires { (length window.old ≤ 262144) × Holds (length window.old) held }
     ensures { Follows (length window.old) held result }
 {
-    let filled = fill(window, held.count);
+    let filled = fill(rt, window, held.count);
     let last = filled < window.len();
     let stands = held.stands;
     let turn = salvage_window(wanted, &window[..filled], last, held.first, stands, out);
     let end = turn.written;
-    let is_written = io::write_all(STDOUT_FILENO, &out[..end]);
+    let is_written = write_all(rt, &out[..end]);
     move_down(window, turn.passed, filled - turn.passed);
     let more = is_written && is_more(last, filled, turn);
     let next = turn.stands;
@@ -73,11 +85,11 @@ fn pass_window(wanted: Wanted, window: &mut [u8], out: &mut [u8], held: Held) ->
 }
 
 // Reads until the window is full or the file ends, and answers how many bytes are then there.
-fn fill(window: &mut [u8], count: usize) -> usize
+fn fill<R: Input>(rt: &R, window: &mut [u8], count: usize) -> usize
     requires { count ≤ length window.old }
     ensures { (count ≤ result) × (result ≤ length window.new) }
 {
-    count + io::read_full(STDIN_FILENO, &mut window[count..])
+    count + read_full(rt, &mut window[count..])
 }
 
 // There is more to do after a turn that passed a byte, but where the last window is passed to its end and

@@ -1,4 +1,6 @@
 // A book as the 480 bytes that two sites exchange, or that one keeps over a restart.
+#![tactic(auto)]
+
 mod reading;
 mod writing;
 

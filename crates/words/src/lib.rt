@@ -1,4 +1,6 @@
 // The words of a string: their values, the reader and the encoder of the eight kinds.
+#![tactic(auto)]
+
 mod reading;
 mod values;
 mod writing;

@@ -12,7 +12,7 @@ use records::{
 use strings::{Checked, Refusal};
 
 // The reader's answer: m and the words of the kind asked, or why not.
-#[derive(Drop)]
+#[derive(Clone, Copy)]
 pub enum Reading {
     Read(u8, Record),
     Refused(Refusal),

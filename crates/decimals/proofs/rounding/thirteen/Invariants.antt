@@ -1,0 +1,12 @@
+-- `rounding::thirteen` meets its contract. The loop's invariant: q + r / 2 ^ p is a / 2 ^ p times 10 ^ k. Assumes nothing.
+use Prim.Native.Nat.{ℕ, ◌+◌, ◌-◌, ◌*◌, ◌/◌, ◌%◌, ◌<◌}
+use native.Mathlib.Omega.{arith}
+use Rattle.decimals.specs.Decimal.{Scale}
+use Rattle.decimals.proofs.Scales.{Turned, one_of, one_is, one_pos, one_le, begins, goes_on, found, is_scale, is_nearest}
+use Rattle.decimals.proofs.rounding.thirteen.Given as goal
+
+abbrev pub invariant-loop-q : goal.invariant-loop-q
+invariant-loop-q l = Turned l.a l.one l.q l.r l.k
+
+abbrev pub decreases-loop-q : goal.decreases-loop-q
+decreases-loop-q l = 31 - l.k

@@ -1,0 +1,21 @@
+-- `coding::read_symbols` meets its contract. The loop's invariant: `before` is the byte sent before the byte at k, the first symbol standing before
+-- the first byte, and the bytes of `out` below k are made. The measure is how many bytes are left.
+-- Assumes nothing.
+use mathlib.Core.Path.{◌≡◌, refl, ap₂, ◌∙◌}
+use mathlib.Core.List.{List}
+use Prim.Native.Nat.{ℕ, ◌+◌, ◌-◌, ◌*◌, ◌%◌, ◌≤◌, ◌<◌}
+use native.Mathlib.Omega.{arith}
+use native.Mathlib.Numerals.{add-one}
+use lib.ListN.{length, get_or, length-set}
+use borrow.Author.Rules.{rules}
+use borrow.Author.Count.{below_none}
+use Rattle.strings.proofs.Value.{Bytes}
+use Rattle.strings.proofs.Shape.{shaped}
+use Rattle.relative.proofs.Symbols.{with_above, led, made, made_at, set_more, all_read}
+use Rattle.relative.proofs.coding.read_symbols.Given as goal
+
+abbrev pub invariant-loop-k : goal.invariant-loop-k
+invariant-loop-k l = ((l.k ≤ 11) × ((length l.s ≡ 11) × (length l.out ≡ 11))) × ((l.before ≡ get_or (led l.s) l.k 0) × ((j : ℕ) → j < l.k → get_or l.out j 0 ≡ get_or (made l.s) j 0))
+
+abbrev pub decreases-loop-k : goal.decreases-loop-k
+decreases-loop-k l = 11 - l.k

@@ -1,0 +1,20 @@
+-- `coding::send_symbols` meets its contract. The loop's invariant: what stands above bit i is sent, what stands below is as it came, and the padding
+-- is 0. The measure is i.
+-- Assumes nothing.
+use mathlib.Core.Path.{◌≡◌, sym, ap, ◌∙◌}
+use mathlib.Core.Logic.{⊎_elim}
+use Prim.Native.Nat.{ℕ, ◌+◌, ◌≤◌}
+use native.Mathlib.Omega.{arith}
+use lib.ListN.{length}
+use borrow.Author.Rules.{rules}
+use Rattle.strings.specs.Number.{bit_of, number_of, padding_of, flip, bytes_of_string}
+use Rattle.strings.proofs.Value.{Bytes, number_lt, bytes_of_string_lem}
+use Rattle.strings.proofs.Shape.{shaped}
+use Rattle.relative.proofs.Symbols.{part_sent, sent_none, sent_all, sends_one, sends_zero}
+use Rattle.relative.proofs.coding.send_symbols.Given as goal
+
+abbrev pub invariant-loop-i : goal.invariant-loop-i
+invariant-loop-i l = ((l.i ≤ 84) × (length l.s ≡ 11)) × ((number_of l.s ≡ part_sent (number_of l.initial.s) l.i) × ((padding_of l.s ≡ 0) × Bytes l.s))
+
+abbrev pub decreases-loop-i : goal.decreases-loop-i
+decreases-loop-i l = l.i

@@ -1,0 +1,17 @@
+-- `hamming::add_run` meets its contract: before bit i the sums are those of the bits below it, and `bits` is the rest of the run. Assumes nothing.
+use mathlib.Core.Path.{◌≡◌, sym, ap, ◌∙◌}
+use Prim.Native.Nat.{ℕ, ◌+◌, ◌-◌, ◌/◌, ◌%◌, ◌^◌, ◌≤◌}
+use native.Mathlib.Omega.{arith}
+use borrow.Author.Rules.{rules}
+use lib.Pow.{shr-shr}
+use Rattle.strings.specs.Number.{number_of, bit_of, word_of}
+use Rattle.strings.specs.Hamming.{position}
+use Rattle.strings.proofs.WordOf.{bit_in_word}
+use Rattle.strings.proofs.Runs.{sums_of, added}
+use Rattle.strings.proofs.hamming.add_run.Given as goal
+
+abbrev pub invariant-loop-i : goal.invariant-loop-i
+invariant-loop-i l = ((l.low ≤ l.i) × (l.i ≤ l.top + 1)) × ((l.t ≡ sums_of (number_of l.s % 2 ^ (l.i - 1))) × (l.bits ≡ word_of (number_of l.s) l.top l.low / 2 ^ (l.i - l.low)))
+
+abbrev pub decreases-loop-i : goal.decreases-loop-i
+decreases-loop-i l = l.top + 1 - l.i
