@@ -12,6 +12,7 @@ use Rattle.strings.proofs.Value.{Bytes, number_lt, bytes_of_string_lem}
 use Rattle.strings.proofs.Shape.{shaped}
 use Rattle.relative.proofs.Symbols.{part_sent, sent_none, sent_all, sends_one, sends_zero}
 use Rattle.relative.proofs.coding.send_symbols.Goals as goal
+use Rattle.relative.proofs.coding.send_symbols.Goals.{then-bit-eq1, else-bit-eq1}
 
 pub loop-i-init : goal.loop-i-init
 loop-i-init c =
@@ -26,17 +27,17 @@ loop-i-preserved c =
     let k = c.loop-i.i in
     let i = c.loop-i.invariant in
     let b : bit_of (part_sent n k) (k + 1) ≡ c.bit.result = ap (λ (x : ℕ). bit_of x (k + 1)) (sym i.1.0) ∙ sym c.bit.ensures in
-    ⊎_elim
-    (λ w. rw w.5 (
-      (omega arith, w.2.kept.0 ∙ i.0.1),
-      (
-        w.2.ensures.0 ∙ ap (λ (x : ℕ). flip x k) i.1.0 ∙ sends_one n k (omega arith) i.0.0 (b ∙ w.0.taken),
-        (w.2.ensures.1 ∙ i.1.1.0, λ j. (w.4.given j).fits),
-      ),
-    ))
-    (λ w. rw w.1
-    ((omega arith, i.0.1), (i.1.0 ∙ sends_zero n k (omega arith) i.0.0 (λ q. w.0.left (sym b ∙ q)), i.1.1)))
-    c.if-bit-eq1.branch
+    elim c.if-bit-eq1.branch [
+      then-bit-eq1 w ↦ rw w.s-is (
+        (omega arith, w.flip_bit.auto.s ∙ i.0.1),
+        (
+          w.flip_bit.ensures.0 ∙ ap (λ (x : ℕ). flip x k) i.1.0 ∙ sends_one n k (omega arith) i.0.0 (b ∙ w.if-bit-eq1.true),
+          (w.flip_bit.ensures.1 ∙ i.1.1.0, λ j. (w.slice_known-then-bit-eq1-1.given j).fits),
+        ),
+      )
+    | else-bit-eq1 w ↦ rw w.s-is
+      ((omega arith, i.0.1), (i.1.0 ∙ sends_zero n k (omega arith) i.0.0 (λ q. w.if-bit-eq1.false (sym b ∙ q)), i.1.1))
+    ]
 
 pub returns : goal.returns
 returns c =

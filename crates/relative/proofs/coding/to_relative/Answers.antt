@@ -23,8 +23,8 @@ shape_ok-2 c = shape_told c.well_shaped.ensures c.if-not-well_shaped.false
 shape_ok-3 : (c : goal.After-slice_known-3-1) → misshapen c.args.s.now ≡ false
 shape_ok-3 c = shape_told c.well_shaped.ensures c.if-not-well_shaped.false
 
-copy_ok : (c : goal.After-slice_known-3-1) (l : List ℕ) → l ≡ take (length c.args.s.now) c.args.s.now ++ drop (length c.args.s.now) c.args.out.now → l ≡ c.args.s.now
-copy_ok c l = copied c.args.s.now c.args.out.now l (c.if-out-ne11.false ∙ sym (shaped c.args.s.now (shape_ok-3 c)).0)
+pub copy_from_slice-requires : goal.copy_from_slice-requires
+copy_from_slice-requires c = c.if-out-ne11.false ∙ sym (shaped c.args.s.now (shape_told c.well_shaped.ensures c.if-not-well_shaped.false)).0
 
 pub returns-then-out-ne11 : goal.returns-then-out-ne11
 returns-then-out-ne11 c = write_no_room _ _ c.if-out-ne11.true
@@ -41,6 +41,6 @@ returns-then-bit-eq1 c =
 
 pub returns : goal.returns
 returns c =
-    let e = copy_ok c _ c.copy.ensures.1 in
+    let e = c.copy_from_slice.ensures.after in
     rw (c.send_symbols.ensures, e)
     (last_takes c.args.s.now c.args.out.now c.if-out-ne11.false (shape_ok-3 c) (ne_eqb _ _ (λ q. c.if-bit-eq1.false (c.bit.ensures ∙ q))))
