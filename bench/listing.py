@@ -4,7 +4,7 @@ import glob, os, subprocess, sys, tempfile, time
 
 second, toolchain, plugin = sys.argv[1:]
 COMMAND = os.path.abspath("listing")
-PROGRAM = os.path.abspath("target/bin/listing")
+PROGRAM = os.path.abspath("crates/listing/out/listing")
 COUNTED = ["qemu-x86_64", "-cpu", "max,-erms", "-plugin", f"{plugin},out=%s", f"{toolchain}/lib/ld-linux-x86-64.so.2", "--library-path", f"{toolchain}/lib", PROGRAM]
 RUNS = 5
 

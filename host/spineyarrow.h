@@ -196,7 +196,7 @@ typedef char spineyarrow_station_size[sizeof(struct spineyarrow_station) == 1403
 
 enum { SPINEYARROW_STATION_BYTES = 14032, SPINEYARROW_STATION_ALIGNMENT = 8 };
 
-/* ==== libhost.a (rt staticlib host): strings checked, signed words as floats, the immediate record of four strings */
+/* ==== libhost.a (tools/staticlib host): strings checked, signed words as floats, the immediate record of four strings */
 
 /* Checks a plain string, and writes it into eleven bytes as the check leaves it. Answers 0 with the
    verdict, in the next byte 0 clean or 1 repaired, and above that the bit that was repaired; or 12 ROOM,
@@ -215,7 +215,7 @@ uint32_t spineyarrow_word(const uint8_t *s, uint64_t s_length, uint8_t word, dou
    the four share a frame is not tested. */
 uint32_t spineyarrow_immediate(const uint8_t *one, uint64_t one_length, const uint8_t *two, uint64_t two_length, const uint8_t *three, uint64_t three_length, const uint8_t *four, uint64_t four_length, int32_t words[26], double numbers[12]);
 
-/* ==== liblent.a (rt staticlib lent): a station of two cards that lies in the host's memory, 14,032 bytes aligned to 8; all zero is a fresh one */
+/* ==== liblent.a (tools/staticlib lent): a station of two cards that lies in the host's memory, 14,032 bytes aligned to 8; all zero is a fresh one */
 
 /* Offers a string, in relative form and of any length, to a channel at an epoch. Card 1 has channels 0
    to 23, card 2 24 to 47. A card that is neither is told 16 CARD, a channel above 47 1 CHANNEL, and the
@@ -229,7 +229,7 @@ uint64_t spineyarrow_offer(void *station, uint8_t card, uint8_t channel, uint32_
    those of an offer, and told in the same way, before anything of the station is touched. */
 uint64_t spineyarrow_reset(void *station, uint8_t card, uint8_t channel);
 
-/* ==== liblent_queries.a (rt staticlib lent_queries): what such a station tells; a room counts the numbers of an output, not its bytes */
+/* ==== liblent_queries.a (tools/staticlib lent_queries): what such a station tells; a room counts the numbers of an output, not its bytes */
 
 /* How many slots of the book are filled, the oldest day and the newest, into three elements. Answers 0;
    or 16 CARD, 12 ROOM. */
@@ -251,7 +251,7 @@ uint64_t spineyarrow_entry(const void *station, uint8_t card, uint8_t slot, int3
    0; or 16 CARD, 1 CHANNEL, 15 OWNER, 12 ROOM, 13 NOTHING. */
 uint64_t spineyarrow_record(const void *station, uint8_t card, uint8_t channel, int32_t *words, uint64_t words_room, uint32_t *start);
 
-/* ==== liblent_blocks.a (rt staticlib lent_blocks): a block of fields handed to such a station, field by field */
+/* ==== liblent_blocks.a (tools/staticlib lent_blocks): a block of fields handed to such a station, field by field */
 
 /* Does the field at a place, for the card that hands the block over, and tells it in one number: in its
    lowest byte 0 at the end of the block, 1 an offer, 2 a reset, 3 a remark, or what says no to the
@@ -261,7 +261,7 @@ uint64_t spineyarrow_field(void *station, uint8_t card, const uint8_t *block, ui
 /* The place after the field: its own where it is refused, and at the end. */
 uint64_t spineyarrow_next(const uint8_t *block, uint64_t block_length, uint64_t at);
 
-/* ==== liblent_sites.a (rt staticlib lent_sites): such a station emptied, another site's book joined into its own, its own book for another site */
+/* ==== liblent_sites.a (tools/staticlib lent_sites): such a station emptied, another site's book joined into its own, its own book for another site */
 
 /* Leaves the station as one that has heard nothing, whatever it was. */
 void spineyarrow_fresh(void *station);
@@ -272,7 +272,7 @@ uint64_t spineyarrow_join(void *station, const uint8_t *book, uint64_t book_leng
 /* Writes the book's 480 bytes. A room that is not of that many bytes is told 12 ROOM, and stays as it was. */
 uint64_t spineyarrow_book(const void *station, uint8_t *out, uint64_t out_room);
 
-/* ==== liblent_navigation.a (rt staticlib lent_navigation): the navigation record of a satellite that such a station hears */
+/* ==== liblent_navigation.a (tools/staticlib lent_navigation): the navigation record of a satellite that such a station hears */
 
 /* The RINEX navigation record of a channel's satellite, into 320 bytes: four lines of 79 columns and a line
    feed. In the next byte n, the satellite; the text has the epoch. Or 16 CARD, 1 CHANNEL, 15 OWNER, 13

@@ -89,13 +89,13 @@ $1 == "archive" {
     if (!parts++) print "    SPINEYARROW_WORDS = " words "\n};\n" ENVIRON["STRUCTS"]
     about = $0
     sub(/^archive [^ ]+ /, "", about)
-    printf "\n/* ==== lib%s.a (rt staticlib %s): %s */\n", $2, $2, about
+    printf "\n/* ==== lib%s.a (tools/staticlib %s): %s */\n", $2, $2, about
     next
 }
 
 # the comment above a call, and then the call up to where its contract begins
 /^\/\/ / { comment = comment (comment == "" ? "" : "\n   ") substr($0, 4); next }
-/^#\[no_mangle\]/ { next }
+/^#\[unsafe\(no_mangle\)\]/ { next }
 /^pub extern "C" fn / { call = ""; inside = 1 }
 inside {
     if ($0 ~ /^ +ensures/ || $0 ~ /^\{/) {

@@ -33,6 +33,7 @@ function in_capitals(s) { gsub(/[A-Z]/, "_&", s); return toupper(substr(s, 2)) }
 
 /^\/\/ / { comment = comment (comment == "" ? "" : "\n   ") substr($0, 4); next }
 /^#\[repr\(C\)\]/ { marked = 1; next }
+/^#\[derive/ { next }
 marked && /^pub struct / { name = $3; marked = 0; inside = 1; about[name] = comment; comment = ""; next }
 inside && /^}/ { inside = 0; next }
 inside && /^    pub / {
