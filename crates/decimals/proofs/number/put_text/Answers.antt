@@ -1,10 +1,8 @@
 -- `number::put_text` meets its contract: the text grows from left to right (`Upto`). Assumes nothing.
-use borrow.Author.Rules.{rules}
-use mathlib.Core.Path.{refl, sym, ◌∙◌, ap}
+use mathlib.Core.Path.{refl, ◌∙◌, ap}
 use mathlib.Core.Bool.{Bool, cond}
 use mathlib.Core.List.{List, [], ◌∷◌, ◌++◌}
 use Prim.Native.Nat.{ℕ, ◌+◌, ◌-◌, ◌/◌}
-use native.Mathlib.Omega.{arith}
 use lib.Dec.{leb, lit<, lit≤}
 use lib.ListN.{length, set}
 use borrow.Rule.Slice.PartMut.{put_mid, mid_of}
@@ -36,50 +34,35 @@ L1 c = set c.args.out.now 0 c.sign.result
 u1 : (c : goal.After-slice_known-4-1) → Upto 19 1 (L1 c) (t1 c.args.neg)
 u1 c = upto_set (lit< tt) c.sign.ensures (upto_none c.args.out.now c.requires)
 
-abbrev s2 : (c : goal.After-slice_known-4-1) → tie.After-sign
-s2 c = c
-
 abbrev L2 : (c : goal.After-slice_known-4-1) → List ℕ
-L2 c = put_mid 1 1 (L1 (s2 c)) c.put_digits.new.out
+L2 c = put_mid 1 1 (L1 c) c.put_digits.new.out
 
-u2 : (c : goal.After-slice_known-4-1) → Upto 19 2 (L2 c) (t1 (s2 c).before.before.args.neg ++ digits_of 1 (head (s2 c).before.before.args.n))
-u2 c = upto_digits 1 (head (s2 c).before.before.args.n) (lit≤ tt) c.put_digits.ensures (u1 (s2 c))
+u2 : (c : goal.After-slice_known-4-1) → Upto 19 2 (L2 c) (t1 c.args.neg ++ digits_of 1 (head c.args.n))
+u2 c = upto_digits 1 (head c.args.n) (lit≤ tt) c.put_digits.ensures (u1 c)
 
-u3 : (c : goal.After-slice_known-4-1) → Upto 19 3 (set (L2 c) 2 46) (t3 (s2 c).before.before.args.neg (s2 c).before.before.args.n)
+u3 : (c : goal.After-slice_known-4-1) → Upto 19 3 (set (L2 c) 2 46) (t3 c.args.neg c.args.n)
 u3 c = upto_set (lit< tt) refl (u2 c)
 
-abbrev s3 : (c : goal.After-slice_known-4-1) → tie.After-slice-known2
-s3 c = c
-
 abbrev L4 : (c : goal.After-slice_known-4-1) → List ℕ
-L4 c = put_mid 3 12 (set (L2 (s3 c)) 2 46) c.put_digits-2.new.out
+L4 c = put_mid 3 12 (set (L2 c) 2 46) c.put_digits-2.new.out
 
-abbrev a3 : (c : goal.After-slice_known-4-1) → tie.Start
-a3 c = (s2 (s3 c)).before.before
+u4 : (c : goal.After-slice_known-4-1) → Upto 19 15 (L4 c) (t3 c.args.neg c.args.n ++ digits_of 12 c.args.n)
+u4 c = upto_digits 12 c.args.n (lit≤ tt) c.put_digits-2.ensures (u3 c)
 
-u4 : (c : goal.After-slice_known-4-1) → Upto 19 15 (L4 c) (t3 (a3 c).args.neg (a3 c).args.n ++ digits_of 12 (a3 c).args.n)
-u4 c = upto_digits 12 (a3 c).args.n (lit≤ tt) c.put_digits-2.ensures (u3 (s3 c))
-
-u5 : (c : goal.After-slice_known-4-1) → Upto 19 16 (set (L4 c) 15 68) (t5 (a3 c).args.neg (a3 c).args.n)
+u5 : (c : goal.After-slice_known-4-1) → Upto 19 16 (set (L4 c) 15 68) (t5 c.args.neg c.args.n)
 u5 c = upto_set (lit< tt) refl (u4 c)
 
 abbrev L6 : (c : goal.After-slice_known-4-1) → List ℕ
 L6 c = set (set (L4 c) 15 68) 16 c.exponent_sign.result
 
-u6 : (c : goal.After-slice_known-4-1) → Upto 19 17 (L6 c) (t6 (a3 c).args.neg (a3 c).args.n (a3 c).args.k)
+u6 : (c : goal.After-slice_known-4-1) → Upto 19 17 (L6 c) (t6 c.args.neg c.args.n c.args.k)
 u6 c = upto_set (lit< tt) c.exponent_sign.ensures (u5 c)
 
-abbrev s4 : (c : goal.After-slice_known-4-1) → tie.After-exponent-sign
-s4 c = c
-
-abbrev a4 : (c : goal.After-slice_known-4-1) → tie.Start
-a4 c = a3 (s4 c).before
-
-u7 : (c : goal.After-slice_known-4-1) → Upto 19 19 (put_mid 17 2 (L6 (s4 c)) c.put_digits-3.new.out) (t6 (a4 c).args.neg (a4 c).args.n (a4 c).args.k ++ digits_of 2 (12 - (a4 c).args.k + ((a4 c).args.k - 12)))
+u7 : (c : goal.After-slice_known-4-1) → Upto 19 19 (put_mid 17 2 (L6 c) c.put_digits-3.new.out) (t6 c.args.neg c.args.n c.args.k ++ digits_of 2 (12 - c.args.k + (c.args.k - 12)))
 u7 c =
-    let k = (a4 c).args.k in
-    let size = ap (λ (z : ℕ). digits_of (length (mid_of 17 2 (L6 (s4 c)))) z) c.exponent_size.ensures in
-    upto_digits 2 (12 - k + (k - 12)) (lit≤ tt) (c.put_digits-3.ensures ∙ size) (u6 (s4 c))
+    let k = c.args.k in
+    let size = ap (λ (z : ℕ). digits_of (length (mid_of 17 2 (L6 c))) z) c.exponent_size.ensures in
+    upto_digits 2 (12 - k + (k - 12)) (lit≤ tt) (c.put_digits-3.ensures ∙ size) (u6 c)
 
 pub returns : goal.returns
 unfolding text_of
