@@ -1,6 +1,6 @@
 -- What is known of the ranging code, computed from its rule.
 -- Assumes nothing.
-use Rattle.std.specs.Prelude.{ℕ, zero, suc, ◌+◌, List, [], ◌∷◌, ◌≡◌, refl}
+use Rattle.std.specs.Prelude.{ℕ, ◌+◌, List, [], ◌∷◌, ◌≡◌, refl}
 use Rattle.chips.specs.Register.{ones, after, outputs}
 
 abbrev pub sum : List ℕ → ℕ

@@ -1,5 +1,4 @@
 -- `date_of` meets its contract. Assumes nothing.
-use borrow.Author.Rules.{rules}
 use mathlib.Core.Path.{sym}
 use Rattle.calendar.specs.FourYears.{starts}
 use Rattle.calendar.proofs.Months.{by_table}

@@ -1,10 +1,7 @@
 -- `month_of` meets its contract. The loop's invariant: month i begins on this day or before it. Assumes nothing.
-use borrow.Author.Rules.{rules}
-use Prim.Native.Nat.{◌-◌}
 use native.Mathlib.Numerals.{add-one}
-use native.Mathlib.Omega.{arith}
 use Rattle.calendar.specs.FourYears.{starts}
-use Rattle.calendar.proofs.Months.{Sought, begins_before, goes_on}
+use Rattle.calendar.proofs.Months.{begins_before, goes_on}
 use Rattle.calendar.proofs.month_of.Goals as goal
 
 pub loop-i-init : goal.loop-i-init
@@ -12,10 +9,10 @@ loop-i-init c = begins_before c.args.rest c.requires
 
 pub loop-i-preserved : goal.loop-i-preserved
 unfolding starts
-loop-i-preserved c = goes_on c.args.rest c.loop-i.i c.loop-i.invariant c.loop-test.true
+loop-i-preserved c = goes_on c.args.rest c.loop-i.i c.loop-i.invariant c.loop-i-test.true
 
 pub returns : goal.returns
 unfolding starts
 returns c =
     let l = c.loop-i in
-    record { one_of_48 = l.invariant.one_of_48; from = l.invariant.from; before_next = rw add-one at c.loop-test.false }
+    record { one_of_48 = l.invariant.one_of_48; from = l.invariant.from; before_next = rw add-one at c.loop-i-test.false }

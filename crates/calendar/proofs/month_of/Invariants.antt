@@ -1,10 +1,6 @@
 -- `month_of` meets its contract. The loop's invariant: month i begins on this day or before it. Assumes nothing.
-use borrow.Author.Rules.{rules}
 use Prim.Native.Nat.{◌-◌}
-use native.Mathlib.Numerals.{add-one}
-use native.Mathlib.Omega.{arith}
-use Rattle.calendar.specs.FourYears.{starts}
-use Rattle.calendar.proofs.Months.{Sought, begins_before, goes_on}
+use Rattle.calendar.proofs.Months.{Sought}
 use Rattle.calendar.proofs.month_of.Given as goal
 
 abbrev pub invariant-loop-i : goal.invariant-loop-i

@@ -1,6 +1,5 @@
 -- `chips::chip` meets its contract. Assumes nothing.
 use Rattle.chips.proofs.Table.{chip_at, digit_up, digit_off}
-use borrow.Author.Rules.{rules}
 use Rattle.chips.proofs.chip.Goals as goal
 
 pub overflow_sub-result : goal.overflow_sub-result

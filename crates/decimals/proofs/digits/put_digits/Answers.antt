@@ -1,7 +1,6 @@
 -- `digits::put_digits` meets its contract. The invariant: the places from i on are written (`Put`). Assumes nothing.
 use native.Mathlib.Omega.{arith}
-use lib.ListN.{length}
-use Rattle.decimals.proofs.Letters.{Put, put_none, put_more, put_all}
+use Rattle.decimals.proofs.Letters.{put_more}
 use Rattle.decimals.proofs.digits.put_digits.Goals as goal
 
 pub loop-i-preserved : goal.loop-i-preserved

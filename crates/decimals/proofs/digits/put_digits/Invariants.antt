@@ -1,7 +1,6 @@
 -- `digits::put_digits` meets its contract. The invariant: the places from i on are written (`Put`). Assumes nothing.
-use native.Mathlib.Omega.{arith}
 use lib.ListN.{length}
-use Rattle.decimals.proofs.Letters.{Put, put_none, put_more, put_all}
+use Rattle.decimals.proofs.Letters.{Put}
 use Rattle.decimals.proofs.digits.put_digits.Given as goal
 
 abbrev pub invariant-loop-i : goal.invariant-loop-i

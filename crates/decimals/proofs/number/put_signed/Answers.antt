@@ -1,5 +1,4 @@
 -- `number::put_signed` meets its contract. Assumes nothing.
-use borrow.Author.Rules.{rules}
 use mathlib.Core.Path.{◌∙◌}
 use Rattle.decimals.proofs.Exactly.{at_zero, at_other}
 use Rattle.decimals.proofs.number.put_signed.Goals as goal

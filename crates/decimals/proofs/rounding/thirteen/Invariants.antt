@@ -1,8 +1,6 @@
 -- `rounding::thirteen` meets its contract. The loop's invariant: q + r / 2 ^ p is a / 2 ^ p times 10 ^ k. Assumes nothing.
-use Prim.Native.Nat.{ℕ, ◌+◌, ◌-◌, ◌*◌, ◌/◌, ◌%◌, ◌<◌}
-use native.Mathlib.Omega.{arith}
-use Rattle.decimals.specs.Decimal.{Scale}
-use Rattle.decimals.proofs.Scales.{Turned, one_of, one_is, one_pos, one_le, begins, goes_on, found, is_scale, is_nearest}
+use Prim.Native.Nat.{◌-◌}
+use Rattle.decimals.proofs.Scales.{Turned}
 use Rattle.decimals.proofs.rounding.thirteen.Given as goal
 
 abbrev pub invariant-loop-q : goal.invariant-loop-q

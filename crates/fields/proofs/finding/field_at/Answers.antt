@@ -1,8 +1,6 @@
 -- `finding::field_at` meets its contract: each return by the tests that led to it. Assumes nothing.
 use mathlib.Core.Path.{◌∙◌, sym}
-use native.Mathlib.Omega.{arith}
-use Rattle.fields.proofs.Answers.{fits, ends, cut, unknown, wrong, well}
-use borrow.Author.Rules.{rules}
+use Rattle.fields.proofs.Answers.{ends, cut, unknown, wrong, well}
 use Rattle.fields.proofs.finding.field_at.Goals as goal
 
 pub returns-then-s-at : goal.returns-then-s-at
@@ -24,4 +22,4 @@ returns-then-is_wrong c =
 pub returns : goal.returns
 returns c =
     well c.if-s-at.false (sym c.is_cut.ensures ∙ c.if-is_cut.false) (sym c.is_unknown.ensures ∙ c.if-is_unknown.false)
-    c.length_at-size.ensures (sym c.is_wrong.ensures ∙ c.if-is_wrong.false) c.good2.ensures
+    c.length_at-size.ensures (sym c.is_wrong.ensures ∙ c.if-is_wrong.false) c.good.ensures
