@@ -8,7 +8,6 @@ use Rattle.words.specs.Values.{values_of}
 use Rattle.records.specs.Records.{odd_of}
 use Rattle.book.specs.Entry.{odd_words}
 use Rattle.book.proofs.Additions.{half_number}
-use borrow.Author.Rules.{rules}
 use Rattle.book.proofs.halves.odd_words.Goals as goal
 
 pub returns : goal.returns

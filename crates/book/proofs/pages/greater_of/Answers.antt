@@ -1,5 +1,4 @@
 -- `pages::greater_of` meets its contract. Assumes nothing.
-use borrow.Author.Rules.{rules}
 use Rattle.book.specs.Entry.{greater}
 use Rattle.book.proofs.pages.greater_of.Goals as goal
 

@@ -1,5 +1,4 @@
 -- `pages::join` meets its contract: each return rewrites with the variant that led there. Assumes nothing.
-use borrow.Author.Rules.{rules}
 use Rattle.book.specs.Book.{joined_entry}
 use Rattle.book.proofs.pages.join.Goals as goal
 

@@ -9,7 +9,6 @@ use Rattle.book.specs.Entry.{entry_of}
 use Rattle.book.specs.Shows.{three_of, day_of}
 use Rattle.book.proofs.Parts.{half_high, half_low}
 use Rattle.book.proofs.Order.{same_entry}
-use borrow.Author.Rules.{rules}
 use Rattle.book.proofs.showing.entry_from.Goals as goal
 
 pub overflow_mul-result : goal.overflow_mul-result

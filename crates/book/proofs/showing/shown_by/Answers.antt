@@ -2,7 +2,6 @@
 use mathlib.Core.Path.{◌≡◌, sym, ◌∙◌}
 use mathlib.Core.Bool.{true, false, ◌&&◌}
 use native.Mathlib.Omega.{arith}
-use borrow.Author.Tests.{not-true, not-false}
 use lib.Dec.{leb}
 use Rattle.strings.specs.Number.{number_of}
 use Rattle.records.specs.declared.kinds.Kind.TheVariants.{Five, Even, Odd}
@@ -10,7 +9,6 @@ use Rattle.words.proofs.WordBits.{word_lt}
 use Rattle.words.specs.Good.{is_good}
 use Rattle.book.specs.Shows.{four_years, shown_by}
 use Rattle.book.proofs.ShownTests.{shown_is, day_read}
-use borrow.Author.Rules.{rules}
 use Rattle.book.proofs.showing.shown_by.Goals as goal
 
 pub returns-then-not-has_day : goal.returns-then-not-has_day
