@@ -1,6 +1,6 @@
 -- The known days of the paper ("Known strings and edges"), computed from the definitions.
 -- Assumes nothing.
-use Rattle.std.specs.Prelude.{◌≡◌, refl, ℕ}
+use Rattle.std.specs.Prelude.{◌≡◌, refl}
 use Rattle.book.specs.Shows.{day_of}
 
 pub record Known : Type 0 where

@@ -1,0 +1,8 @@
+-- `rows::empty_row` meets its contract. Assumes nothing.
+use borrow.Author.Rules.{rules}
+use Rattle.channel.specs.Row.{empty_row}
+use Rattle.channel.proofs.rows.empty_row.Goals as goal
+
+pub returns : goal.returns
+unfolding empty_row
+returns c = rw c.none_counted.ensures
