@@ -2,12 +2,12 @@
 -- Assumes nothing.
 use mathlib.Core.Path.{◌≡◌, refl, sym, subst}
 use mathlib.Core.Bool.{Bool, true, false, ◌||◌, true≢false}
-use Prim.Native.Nat.{ℕ, zero, suc, ◌+◌, ◌-◌, ◌*◌, ◌/◌, ◌%◌, ◌≤◌, ◌<◌}
+use Prim.Native.Nat.{ℕ, zero, suc, ◌+◌, ◌-◌, ◌*◌, ◌%◌, ◌≤◌, ◌<◌}
 use native.Mathlib.Omega.{arith}
 use borrow.Author.Tests.{eqb-true}
 use lib.Dec.{eqb}
 use Rattle.strings.specs.Pick.{is_one_of}
-use Rattle.superframe.specs.Table41.{pairs, slot_of_pair, frame_of_slot, pair_of_slot, HasSlot, Table41}
+use Rattle.superframe.specs.Table41.{pairs, slot_of_pair, frame_of_slot, pair_of_slot, Table41}
 
 -- ---- the five pairs, one by one
 pub pair_cases : (P : ℕ → Type 0) → P 6 → P 8 → P 10 → P 12 → P 14 → (p : ℕ) → is_one_of pairs p ≡ true → P p

@@ -1,6 +1,6 @@
 -- Which words are refused (request 12): "18 when the entries are not slots 1..24 in order; 10 with the string's place 1..75, also for N4 = 0".
 -- Assumes nothing.
-use Rattle.std.specs.Prelude.{ℕ, zero, suc, ◌+◌, ◌-◌, ◌≤◌, ◌<◌, Bool, true, false, not, ◌&&◌, ◌||◌, ◌≡◌, eqb, ℤ, pos, negsuc}
+use Rattle.std.specs.Prelude.{ℕ, zero, suc, ◌≤◌, ◌<◌, Bool, true, false, not, ◌&&◌, ◌||◌, ◌≡◌, eqb, ℤ, pos, negsuc}
 use Rattle.strings.specs.Pick.{pick}
 use Rattle.strings.specs.declared.Written.{Written}
 use Rattle.strings.specs.declared.Written.TheVariants.{Done, Refused}

@@ -1,6 +1,6 @@
 -- The 75 strings of one satellite's superframe, from words alone (request 12). A frame is g, 0 to 4, and a string in it m, 1 to 15.
 -- Assumes nothing.
-use Rattle.std.specs.Prelude.{ℕ, ◌+◌, ◌-◌, ◌*◌, ◌/◌, ◌%◌, ◌≤◌, ◌<◌, Bool, ◌&&◌, ◌≡◌, eqb, ℤ, pos, get_or}
+use Rattle.std.specs.Prelude.{ℕ, ◌+◌, ◌-◌, ◌/◌, ◌%◌, ◌≤◌, ◌&&◌, ◌≡◌, eqb, ℤ, pos, get_or}
 use Rattle.strings.specs.Pick.{pick}
 use Rattle.records.specs.declared.named.EvenString.{EvenString}
 use Rattle.records.specs.declared.named.OddString.{OddString}
@@ -9,7 +9,7 @@ use Rattle.records.specs.declared.named.Record.TheVariants.{One, Two, Three, Fou
 use Rattle.words.specs.Calls.{string_of}
 use Rattle.superframe.specs.declared.AlmanacWords.{AlmanacWords}
 use Rattle.superframe.specs.declared.Sky.{Sky}
-use Rattle.superframe.specs.Table41.{slot_of_pair, frame_of_slot, pair_of_slot, HasSlot}
+use Rattle.superframe.specs.Table41.{slot_of_pair, frame_of_slot, pair_of_slot}
 
 -- "every l as in string 5 but in string 3"
 abbrev pub with_l : ℤ → OddString → OddString
