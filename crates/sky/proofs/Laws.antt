@@ -1,12 +1,12 @@
 -- What holds of the symbols of every sky: line-laws; and of every making: make-laws. And the answers of `make_sky`, test by test.
 -- Assumes nothing.
-use mathlib.Core.Path.{◌≡◌, refl, sym, ap, subst, ◌∙◌}
-use mathlib.Core.Bool.{Bool, true, false, not, true≢false}
-use mathlib.Core.List.{List, [], ◌∷◌, ◌++◌}
-use Prim.Native.Nat.{ℕ, zero, suc, ◌+◌, ◌-◌, ◌*◌, ◌^◌, ◌≤◌, ◌<◌}
+use mathlib.Core.Path.{◌≡◌, refl, sym, ap, ◌∙◌}
+use mathlib.Core.Bool.{Bool, true, false, not}
+use mathlib.Core.List.{List, [], ◌∷◌}
+use Prim.Native.Nat.{ℕ, suc, ◌+◌, ◌-◌, ◌*◌, ◌^◌, ◌<◌}
 use native.Mathlib.Omega.{arith}
-use borrow.Author.Tests.{eq-eqb, ne_eqb, eqb-true, eqb-false, not-false, ltb-true, ltb-false}
-use lib.Dec.{T, eqb, ltb, lit<}
+use borrow.Author.Tests.{eq-eqb, ne_eqb, eqb-true, not-false, ltb-true, ltb-false}
+use lib.Dec.{eqb, ltb, lit<}
 use lib.ListN.{length, get_or, get_or-append}
 use Rattle.strings.specs.Pick.{pick}
 use Rattle.strings.specs.Number.{number_of}
@@ -15,7 +15,6 @@ use Rattle.strings.specs.declared.Refusal.{Refusal}
 use Rattle.strings.specs.declared.Refusal.TheVariants.{Channel, Shape, Damaged, Idle, Number, Early, Stale, OffBeat, Conflict, Range, Place, Room, Nothing, Slot, Owner, Card}
 use Rattle.strings.specs.declared.hamming.Damage.TheVariants.{Unplaced, Even, Outside}
 use Rattle.strings.proofs.Answer.{refuses, goes_on, takes, same_answer, refusal_of, refusal_known, exactly, first_given, taken_made, refused_left}
-use Rattle.strings.proofs.Below.{unfit}
 use Rattle.relative.specs.Relative.{read_relative}
 use Rattle.superframe.specs.declared.Sky.{Sky}
 use Rattle.superframe.specs.Sky.{sky_string}
@@ -24,7 +23,7 @@ use Rattle.superframe.proofs.Lowest.{refusals}
 use Rattle.sky.specs.declared.Made.{Made}
 use Rattle.sky.specs.declared.Made.TheVariants.{Done, OutOfOrder, Refused}
 use Rattle.sky.specs.Mark.{mark, sequence, five_ones, mark_shortened}
-use Rattle.sky.specs.Line.{relative_bytes, symbol_of, lines_of, sky_lines, heard_in, LineLaws}
+use Rattle.sky.specs.Line.{relative_bytes, symbol_of, sky_lines, heard_in, LineLaws}
 use Rattle.sky.specs.Calls.{made_paper, make_tests, MakesSky, MakeLaws}
 use Rattle.sky.proofs.Lines.{lines_long, lines_small, first_half, second_half, mark_in}
 use Rattle.sky.proofs.Strings.{string_small, idle_sent, read_back_lem, plain_back}

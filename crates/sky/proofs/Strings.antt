@@ -1,13 +1,12 @@
 -- A string of a sky: its bit 85 is 0, so it is sent; and a reader gets it back from its symbols.
 -- Assumes nothing.
 use mathlib.Core.Path.{◌≡◌, refl, sym, ap, ap₂, subst, ◌∙◌}
-use mathlib.Core.Bool.{false}
 use mathlib.Core.List.{List}
 use Prim.Native.Nat.{ℕ, zero, suc, ◌+◌, ◌-◌, ◌*◌, ◌/◌, ◌%◌, ◌^◌, ◌≤◌, ◌<◌}
 use native.Mathlib.Omega.{arith}
 use native.Mathlib.Nat.{mod-lt, zero-lt-suc}
 use borrow.Author.Tests.{ne_eqb}
-use lib.Dec.{eqb, lit≤, lit<}
+use lib.Dec.{eqb, lit≤}
 use lib.ListN.{length, get_or}
 use Rattle.strings.specs.Number.{bit_of, number_from_bits, bytes_of, bytes_of_string, number_of}
 use Rattle.strings.specs.declared.Written.{Written}
@@ -29,7 +28,7 @@ use Rattle.words.specs.Calls.{string_of}
 use Rattle.words.proofs.Fits.{kind_data_lt}
 use Rattle.superframe.specs.declared.Sky.{Sky}
 use Rattle.superframe.specs.Sky.{record_in, frame_at, string_number, sky_string}
-use Rattle.superframe.specs.Refused.{Makes, lowest_bad, string_bad}
+use Rattle.superframe.specs.Refused.{lowest_bad}
 use Rattle.superframe.proofs.Lowest.{none_told}
 use Rattle.superframe.proofs.Encoder.{words_good}
 use Rattle.sky.specs.Line.{relative_bytes, symbol_of, lines_of, sky_lines, heard_in}

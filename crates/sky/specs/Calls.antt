@@ -2,7 +2,7 @@
 -- Assumes nothing.
 use Rattle.std.specs.Prelude.{ℕ, not, List, [], ◌∷◌, ◌≡◌, refl, eqb, length}
 use Rattle.strings.specs.Numbers.{refusal_paper, Test, test, test_at, numbers_of, Answers, Exactly}
-use Rattle.strings.specs.declared.Refusal.TheVariants.{Room, Range}
+use Rattle.strings.specs.declared.Refusal.TheVariants.{Range}
 use Rattle.superframe.specs.declared.Sky.{Sky}
 use Rattle.superframe.specs.Refused.{wrong_slot, lowest_bad, Makes}
 use Rattle.sky.specs.declared.Made.{Made}

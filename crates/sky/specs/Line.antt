@@ -1,7 +1,7 @@
 -- The line symbols (request 12): "85 symbols in relative code, each in two halves by the meander, then the 30-symbol time mark, as figure 3.6 draws them; 200
 -- symbols of 10 ms per string". Symbols are bytes, 0 or 1, in the order of sending.
 -- Assumes nothing.
-use Rattle.std.specs.Prelude.{ℕ, zero, suc, ◌+◌, ◌-◌, ◌/◌, ◌*◌, ◌%◌, ◌^◌, ◌<◌, List, [], ◌∷◌, ◌++◌, ◌≡◌, length, get_or, take, drop}
+use Rattle.std.specs.Prelude.{ℕ, zero, suc, ◌+◌, ◌-◌, ◌/◌, ◌*◌, ◌%◌, ◌^◌, ◌<◌, List, [], ◌∷◌, ◌++◌, ◌≡◌, length, get_or}
 use Rattle.strings.specs.Number.{bytes_of_string, number_of, number_from_bits}
 use Rattle.relative.specs.Relative.{read_relative, write_relative}
 use Rattle.superframe.specs.declared.Sky.{Sky}

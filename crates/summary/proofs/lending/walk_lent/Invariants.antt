@@ -1,5 +1,6 @@
--- The loop's invariant: the lines before i are passed.
-use Rattle.std.proofs.Common.{◌-◌, ◌≤◌, length}
+-- The loop over lent lines: what is passed, as in the walk by value.
+use Prim.Native.Nat.{◌-◌, ◌≤◌}
+use lib.ListN.{length}
 use Rattle.summary.proofs.Passed.{Passed}
 use Rattle.summary.proofs.lending.walk_lent.Given as goal
 

@@ -1,5 +1,4 @@
 -- `lines::with_line` meets its contract: a blank line, or both days by their own functions. Assumes nothing.
-use borrow.Author.Rules.{rules}
 use borrow.Author.Tests.{eq-eqb, ne_eqb}
 use Rattle.summary.specs.Walk.{with_line}
 use Rattle.summary.proofs.lines.with_line.Goals as goal

@@ -1,11 +1,7 @@
 -- `walking::walk` meets its contract. The loop's invariant is `Passed`, which the lent walk's has too. Assumes nothing.
-use Prim.Native.Nat.{◌+◌, ◌-◌, ◌≤◌}
-use native.Mathlib.Omega.{arith}
-use mathlib.Core.Path.{◌≡◌, sym, subst}
-use borrow.Author.Rules.{rules}
-use lib.ListN.{length}
+use Prim.Native.Nat.{◌-◌, ◌≤◌}
 use Rattle.book.specs.Book.{slots}
-use Rattle.summary.proofs.Passed.{Passed, begins, goes_on, ends}
+use Rattle.summary.proofs.Passed.{Passed}
 use Rattle.summary.proofs.walking.walk.Given as goal
 
 abbrev pub invariant-loop-i : goal.invariant-loop-i
