@@ -1,11 +1,12 @@
 -- Pieces written one after the other into a text.
 -- Assumes nothing.
 use mathlib.Core.Path.{◌≡◌, refl, ap, subst, ◌∙◌}
-use mathlib.Core.List.{List, [], ◌∷◌, ◌++◌, append-nil, append_assoc}
+use mathlib.Core.List.{List, [], ◌∷◌, ◌++◌, append_assoc}
 use Prim.Native.Nat.{ℕ, suc, ◌+◌, ◌-◌, ◌≤◌}
 use native.Mathlib.Omega.{arith}
-use lib.ListN.{length, take, drop, set, length-append, length-drop}
-use lib.Seq.{take_all, take-length, drop-length, drop-drop, sets, sets-eq, length-sets}
+use borrow.Rule.Slice.PartMut.{put_mid}
+use lib.ListN.{length, drop, set, length-append}
+use lib.Seq.{drop-drop, sets, sets-eq, length-sets}
 use Rattle.digits.specs.Text.{Puts}
 
 -- stores one after the other
@@ -36,18 +37,9 @@ pub puts_none : {t : List ℕ} {at : ℕ} → Puts t at [] t at
 puts_none {t} {at} = record { past = omega arith; written = refl }
 
 -- a piece copied to its place: the part of the text from `at` on, as the copy leaves it, put back
-module _ (text : List ℕ) (at : ℕ) (s part : List ℕ) (room : at + length s ≤ length text) where
-  abbrev k : ℕ
-  k = length text - at
-
-  abbrev copied : List ℕ
-  copied = take (length s) s ++ drop (length s) (take k (drop at text))
-
-  pub puts_copy : part ≡ copied → Puts text at s (take at text ++ (part ++ drop k (drop at text))) (at + length s)
-  puts_copy e =
-      let f : copied ≡ s ++ drop (at + length s) text =
-      rw (take-length s, take_all k (drop at text) (simp length-drop (omega arith)), drop-drop (length s) at text)
-      in
-      let h : at + k ≡ length text = omega arith in
-      let g : drop k (drop at text) ≡ [] = drop-drop k at text ∙ ap (λ (j : ℕ). drop j text) h ∙ drop-length text in
-      record { past = refl; written = rw (e, f, g, append-nil, sets-eq s text at room, append_assoc) }
+pub puts_copy : (text : List ℕ) (at : ℕ) (s part : List ℕ) → at + length s ≤ length text → part ≡ s
+    → Puts text at s (put_mid at (at + length s - at) text part) (at + length s)
+puts_copy text at s part room e =
+    let h : at + (at + length s - at) ≡ at + length s = omega arith in
+    let g : drop (at + length s - at) (drop at text) ≡ drop (at + length s) text = drop-drop (at + length s - at) at text ∙ ap (λ (j : ℕ). drop j text) h in
+    record { past = refl; written = rw (e, g, sets-eq s text at room, append_assoc) }

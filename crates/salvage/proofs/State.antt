@@ -14,7 +14,6 @@ use Rattle.salvage.specs.declared.Ended.{Ended}
 use Rattle.salvage.specs.declared.Ended.TheVariants.{Whole, OutputFull, ListFull}
 use Rattle.salvage.specs.Items.{Item, Kept, Skipped, next_place, items_of}
 use Rattle.salvage.specs.Writing.{fitting, end_of, kept_bytes, stretches, skips, slots_of, laid, answer_of, Salvages}
-use Rattle.salvage.proofs.Places.{next_in}
 use Rattle.salvage.proofs.Items.{rest, rest_all, rest_end, rest_bad, rest_good, field_in}
 use Rattle.salvage.proofs.Lists.{take_laid, drop_laid, length_laid}
 

@@ -1,7 +1,7 @@
 -- A tally is the true count, and stays at its limit (true-counts, truly-counted): after any offers since the reset each of the fourteen is the lesser of
 -- 4,294,967,295 and how many of the offers were of its sort.
 -- Assumes nothing.
-use mathlib.Core.Path.{◌≡◌, refl, sym, ap, ap₂, ◌∙◌}
+use mathlib.Core.Path.{◌≡◌, refl, sym, ap, ◌∙◌}
 use mathlib.Core.Bool.{Bool, true, false}
 use mathlib.Core.List.{List, [], ◌∷◌}
 use Prim.Native.Nat.{ℕ, ◌+◌, ◌≤◌, ◌<◌, min}
@@ -9,11 +9,10 @@ use native.Mathlib.Nat.{min-eq_left, min-eq_right}
 use native.Mathlib.Omega.{arith}
 use borrow.Author.Tests.{ltb-true, ltb-false}
 use lib.Dec.{ltb}
-use Rattle.strings.specs.Pick.{is_one_of}
 use Rattle.tallies.specs.declared.Tallies.{Tallies}
 use Rattle.tallies.specs.Tallies.{Outcome, is_offer, is_clean, is_repaired, is_refused, causes, is_refused_by, cause_of, limit, one_more, one_more_if, after_offers, how_many, plus_if}
 use Rattle.tallies.specs.Counts.{TrueCounts}
-use Rattle.tallies.proofs.Whose.{Each, each, cause_after}
+use Rattle.tallies.proofs.Whose.{each, cause_after}
 
 -- ---- one more: a step below the limit, none there
 module _ (n : ℕ) where

@@ -1,5 +1,4 @@
 -- `counting::count_cause` meets its contract: line by line. Assumes nothing.
-use borrow.Author.Rules.{rules}
 use Rattle.tallies.specs.Tallies.{causes_after}
 use Rattle.tallies.proofs.counting.count_cause.Goals as goal
 

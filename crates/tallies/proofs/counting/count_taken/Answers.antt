@@ -1,5 +1,4 @@
 -- `counting::count_taken` meets its contract. Assumes nothing.
-use borrow.Author.Rules.{rules}
 use Rattle.tallies.specs.Tallies.{causes_after}
 use Rattle.tallies.proofs.counting.count_taken.Goals as goal
 

@@ -1,6 +1,5 @@
--- `counting::one_more_lem` meets its contract. Assumes nothing.
+-- `counting::one_more` meets its contract. Assumes nothing.
 use native.Mathlib.Omega.{arith}
-use borrow.Author.Rules.{rules}
 use Rattle.tallies.specs.Tallies.{one_more}
 use Rattle.tallies.proofs.counting.one_more.Goals as goal
 

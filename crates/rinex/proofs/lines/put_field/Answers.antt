@@ -1,0 +1,32 @@
+-- `lines::put_field` meets its contract: a blank, then the two columns. Assumes nothing.
+use mathlib.Core.Path.{refl}
+use mathlib.Core.List.{List, [], ◌∷◌, ◌++◌}
+use Prim.Native.Nat.{ℕ}
+use lib.Dec.{lit<, lit≤}
+use lib.ListN.{set}
+use borrow.Rule.Slice.PartMut.{put_mid}
+use Rattle.decimals.proofs.Upto.{Upto, upto_none, upto_set, upto_part, upto_all}
+use Rattle.rinex.specs.Lines.{two_of}
+use Rattle.rinex.proofs.Columns.{two_long}
+use Rattle.rinex.proofs.lines.put_field.Goals as goal
+
+abbrev L1 : (c : goal.After-slice_known-2-1) → List ℕ
+L1 c = set c.args.out.now 0 32
+
+abbrev t1 : (c : goal.After-slice_known-2-1) → List ℕ
+t1 c = 32 ∷ []
+
+u1 : (c : goal.After-slice_known-2-1) → Upto 3 1 (L1 c) (t1 c)
+u1 c = upto_set (lit< tt) refl (upto_none c.args.out.now c.requires)
+
+abbrev L2 : (c : goal.After-slice_known-2-1) → List ℕ
+L2 c = put_mid 1 2 (L1 c) c.put_two.new.out
+
+abbrev t2 : (c : goal.After-slice_known-2-1) → List ℕ
+t2 c = t1 c ++ two_of c.args.n
+
+u2 : (c : goal.After-slice_known-2-1) → Upto 3 3 (L2 c) (t2 c)
+u2 c = upto_part (lit≤ tt) (two_long c.args.n) c.put_two.ensures (u1 c)
+
+pub returns : goal.returns
+returns c = upto_all (u2 c)
