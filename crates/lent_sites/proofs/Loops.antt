@@ -3,8 +3,6 @@
 -- book's (read_at).
 -- Assumes nothing.
 use mathlib.Core.Path.{◌≡◌, refl, sym, ap, ap₂, ◌∙◌}
-use mathlib.Core.Bool.{Bool, true, false, not}
-use lib.Dec.{T}
 use mathlib.Core.List.{List, [], ◌∷◌, ◌++◌}
 use Prim.Native.Nat.{ℕ, zero, suc, ◌+◌, ◌*◌, ◌≤◌, ◌<◌}
 use native.Mathlib.Nat.{not-suc-le-zero, le_of_suc-le-suc}
@@ -20,6 +18,7 @@ use Rattle.summary.specs.declared.Summary.{Summary}
 use Rattle.summary.specs.Walk.{none_filled}
 use Rattle.channel.specs.declared.Row.{Row}
 use Rattle.channel.specs.Row.{empty_row}
+use Rattle.station.specs.declared.Station.{Station}
 use Rattle.station.specs.Station.{channels, fresh_station}
 use Rattle.wire.specs.Bytes.{entry_from, entries_from}
 use Rattle.wire.proofs.Begun.{Begun, begun_none, begun_set, begun_all}
@@ -39,6 +38,11 @@ emptied_none rs l = begun_none rs l
 
 pub emptied_more : (i : ℕ) (rs : List Row) (r : Row) → i < channels → r ≡ empty_row → Emptied i rs → Emptied (i + 1) (set rs i r)
 emptied_more i rs r l e b = rw (add-one i, replicate_more i empty_row, e) (begun_set empty_row l b)
+
+-- how many rows there are is known in a turn, and not before the first
+pub emptied_begun : (i : ℕ) (rs : List Row) → length rs ≡ channels → (0 < i → Emptied i rs) → Emptied i rs
+emptied_begun zero rs l f = emptied_none rs l
+emptied_begun (suc i) rs l f = f (omega arith)
 
 -- a station of empty rows, an empty book and a summary of nothing
 abbrev pub no_summary : Summary
@@ -69,6 +73,15 @@ partly_more xs ys i es e l q p =
 pub partly_all : (xs ys : List Entry) (es : List Entry) → Partly xs ys slots es → es ≡ (join_books (record { entries = xs }) (record { entries = ys })).entries
 partly_all xs ys es p = ends xs ys slots es (omega arith) p.passed
 
+-- and likewise of the entries
+pub partly_begun : (xs ys : List Entry) (i : ℕ) (es : List Entry) → length es ≡ slots → (i ≡ 0 → es ≡ xs) → (0 < i → Partly xs ys i es) → Partly xs ys i es
+partly_begun xs ys zero es l e f = let q = e refl in rw q (partly_none xs ys (ap length (sym q) ∙ l))
+partly_begun xs ys (suc i) es l e f = f (omega arith)
+
+-- a station with these entries
+abbrev pub left : Station → List Entry → Station
+left st es = record { rows = st.rows; book = record { entries = es }; summary = st.summary }
+
 -- the entry read in a turn
 pub read_at : (n i : ℕ) (s : List ℕ) → i < n → entry_from (take 20 (drop (i * 20) s)) ≡ get_or (entries_from n s) i blank
 unfolding entries_from
@@ -77,16 +90,3 @@ read_at (suc n) zero s l = refl
 read_at (suc n) (suc i) s l =
     let e : 20 + i * 20 ≡ suc i * 20 = omega arith in
     ap (λ (r : List ℕ). entry_from (take 20 r)) (sym (drop-drop (i * 20) 20 s ∙ ap (λ (k : ℕ). drop k s) e)) ∙ read_at n i (drop 20 s) (le_of_suc-le-suc l)
-
--- ---- a test as the machine has it: whether two numbers differ
-pub is_not : (t : Bool) → T (not t) → t ≡ false
-is_not true f = absurd f
-is_not false f = refl
-
-pub is_so : (t : Bool) → T (not (not t)) → t ≡ true
-is_so true f = refl
-is_so false f = absurd f
-
-pub holds : (t : Bool) → T (not (not t)) → T t
-holds true f = tt
-holds false f = absurd f

@@ -7,7 +7,6 @@ use Rattle.book.specs.Book.{slots, IsBook}
 use Rattle.wire.specs.Bytes.{book_bytes}
 use Rattle.wire.specs.Laws.{Sent}
 use Rattle.station.specs.declared.Station.{Station}
-use Rattle.station.specs.Station.{fresh_station}
 use Rattle.station.specs.History.{Offer, Reset}
 use Rattle.sites.specs.Joining.{site_joined}
 use Rattle.sites.specs.Lives.{Life, Fresh, Then, Joined, Lived}

@@ -1,7 +1,7 @@
 -- A station lent by a host in C: emptied, another site's book joined into its own, and its own book written for another site (requests 13, 21 and 22).
 -- For every station value.
 -- Assumes nothing.
-use Rattle.std.specs.Prelude.{ℕ, not, List, ◌≡◌, eqb, length}
+use Rattle.std.specs.Prelude.{ℕ, List, ◌≡◌, eqb, length}
 use Rattle.strings.specs.Pick.{pick}
 use Rattle.station.specs.declared.Station.{Station}
 use Rattle.station.specs.Station.{fresh_station}
