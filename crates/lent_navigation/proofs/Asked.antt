@@ -1,13 +1,13 @@
 -- What a call on a lent station tells: shut out at the gate (navigation-shut), of a row whose record has no slot (navigation-none), and by what a row and its
 -- slot's entry tell (navigation-some).
 -- Assumes nothing.
-use Prim.Native.Nat.{ℕ, ◌-◌, ◌≤◌}
+use Prim.Native.Nat.{ℕ, ◌-◌, ◌<◌, ◌≤◌}
 use mathlib.Core.Bool.{Bool, true, false, not, ◌&&◌}
 use mathlib.Core.List.{List, [], ◌∷◌, ◌++◌}
 use mathlib.Core.Path.{◌≡◌, refl, sym, ap, subst, ◌∙◌}
 use native.Mathlib.Omega.{arith}
 use borrow.Author.Tests.{leb-true, le-leb, ne_eqb}
-use lib.Dec.{T, eqb, leb, ltb, ltb→lt}
+use lib.Dec.{eqb, leb}
 use lib.IntN.{nat_abs}
 use lib.ListN.{length}
 use Rattle.strings.specs.Pick.{pick}
@@ -58,10 +58,9 @@ module _ (st : Station) (card c : ℕ) (out : List ℕ) where
   abbrev text : List ℕ
   text = text_at st c
 
-  pub navigation_shut : (z : ℕ) → z ≡ first_of (gate_tests card c) → T (ltb 0 z) → TellsNavigation st card c out out z
-  navigation_shut z e t =
-      let p = shut_out card c z e t in
-      let l = ltb→lt 0 z t in
+  pub navigation_shut : (z : ℕ) → z ≡ first_of (gate_tests card c) → 0 < z → TellsNavigation st card c out out z
+  navigation_shut z e l =
+      let p = shut_out card c z e l in
       let alone : z ≡ packed (z ∷ []) = omega arith in
       let first : first_of (gate_tests card c ++ rest) ≡ z = first_stops (gate_tests card c) rest z e l in
       let some : eqb (first_of (gate_tests card c ++ rest)) 0 ≡ false = ap (λ (k : ℕ). eqb k 0) first ∙ ne_eqb z 0 (λ q. omega (arith, q, l)) in
