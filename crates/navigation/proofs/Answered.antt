@@ -2,9 +2,9 @@
 -- lines long, and a record (day-refused, years-refused, lines-refused, all-written).
 -- Assumes nothing.
 use Prim.Native.Nat.{ℕ, zero, suc}
-use mathlib.Core.Bool.{Bool, true, false, not, ◌&&◌}
-use mathlib.Core.List.{List, [], ◌∷◌, ◌++◌}
-use mathlib.Core.Path.{◌≡◌, refl, sym, ap, ap₂, subst, ◌∙◌}
+use mathlib.Core.Bool.{Bool, true, false, not}
+use mathlib.Core.List.{List, [], ◌∷◌}
+use mathlib.Core.Path.{◌≡◌, refl, sym, ap, subst, ◌∙◌}
 use native.Mathlib.Omega.{arith}
 use borrow.Author.Tests.{leb-true}
 use lib.Dec.{eqb, leb}
@@ -12,21 +12,21 @@ use lib.IntN.{ℤ, nat_abs}
 use lib.ListN.{length, get_or}
 use Rattle.strings.specs.declared.Refusal.{Refusal}
 use Rattle.strings.specs.declared.Refusal.TheVariants.{Range}
-use Rattle.strings.specs.Numbers.{refusal_paper, Test, test, test_at, first_of, place_of, said_by, answer_of, left_by, Answers}
+use Rattle.strings.specs.Numbers.{refusal_paper, Test, test, first_of, place_of, said_by, answer_of, left_by}
 use Rattle.strings.proofs.Answer.{not_taken}
 use Rattle.strings.proofs.Below.{both}
 use Rattle.records.specs.declared.named.ImmediateWords.{ImmediateWords}
 use Rattle.rinex.specs.Record.{record_text, From, IsWritable}
 use Rattle.channel.proofs.HeldFrame.{first_said}
 use Rattle.station.specs.declared.Station.{Station}
-use Rattle.station.specs.Station.{is_served, gate_tests}
+use Rattle.station.specs.Station.{is_served}
 use Rattle.station.proofs.Served.{open_says, shut_says_lem}
 use Rattle.navigation_queries.specs.Five.{five_at}
 use Rattle.navigation_queries.specs.Carrier.{carrier_at}
 use Rattle.navigation.specs.declared.Answer.{Answer}
 use Rattle.navigation.specs.declared.Answer.TheVariants.{Written, Refused, Lines}
 use Rattle.navigation.specs.declared.Gathered.TheVariants.{All, Refused as NotGathered}
-use Rattle.navigation.specs.Writes.{words_at, n_at, is_there, is_within, record_bytes, record_tests, quarter_of, quarter_at, text_at, answer_paper, Writes}
+use Rattle.navigation.specs.Writes.{words_at, n_at, is_there, is_within, record_bytes, record_tests, quarter_at, text_at, Writes}
 use Rattle.navigation.specs.Gathers.{all_tests, told_of, Gathers, WritesAll, AsRead}
 use Rattle.navigation.proofs.Found.{told_zero}
 

@@ -1,14 +1,13 @@
 -- What `gather` finds: from what each query does (record-refused, five-refused, no-entry, all_there).
 -- Assumes nothing.
 use Prim.Native.Nat.{ℕ}
-use mathlib.Core.Bool.{Bool, true, false, not, ◌&&◌, true≢false, false≢true}
-use mathlib.Core.List.{List, [], ◌∷◌, ◌++◌}
-use mathlib.Core.Path.{◌≡◌, refl, sym, ap, ap₂, subst, ◌∙◌}
-use lib.Dec.{eqb}
+use mathlib.Core.Bool.{Bool, true, false, not, ◌&&◌}
+use mathlib.Core.List.{[], ◌∷◌, ◌++◌}
+use mathlib.Core.Path.{◌≡◌, refl, sym, ap, subst, ◌∙◌}
 use lib.IntN.{ℤ, nat_abs}
 use Rattle.strings.specs.declared.Refusal.{Refusal}
 use Rattle.strings.specs.declared.Refusal.TheVariants.{Nothing, Slot}
-use Rattle.strings.specs.Numbers.{refusal_paper, Test, test, answer_of}
+use Rattle.strings.specs.Numbers.{refusal_paper, test, answer_of}
 use Rattle.strings.proofs.Answer.{not_taken}
 use Rattle.strings.proofs.Below.{both}
 use Rattle.records.specs.declared.named.ImmediateWords.{ImmediateWords}
@@ -26,7 +25,7 @@ use Rattle.navigation_queries.specs.Five.{is_five_at, five_at, FindsFive}
 use Rattle.navigation_queries.specs.Carrier.{has_entry, carrier_at, FindsCarrier}
 use Rattle.navigation.specs.declared.Gathered.TheVariants.{All, Refused}
 use Rattle.navigation.specs.Writes.{words_at, n_at, is_there}
-use Rattle.navigation.specs.Gathers.{gather_tests, Gathers, AsRead}
+use Rattle.navigation.specs.Gathers.{Gathers, AsRead}
 use Rattle.navigation.proofs.Read.{as_read}
 
 -- a query that was refused gathered nothing

@@ -1,7 +1,7 @@
 -- The laws of a navigation record, whole. Assumes nothing.
-use Prim.Native.Nat.{ℕ, zero, suc, ◌+◌, ◌-◌, ◌*◌, ◌≤◌, ◌<◌}
+use Prim.Native.Nat.{ℕ, zero, suc, ◌+◌, ◌*◌, ◌≤◌}
 use mathlib.Core.Bool.{Bool, true, false, not, ◌&&◌, true≢false}
-use mathlib.Core.List.{List, [], ◌∷◌, ◌++◌}
+use mathlib.Core.List.{List, [], ◌∷◌}
 use mathlib.Core.Logic.{⊎_elim}
 use mathlib.Core.Path.{◌≡◌, refl, sym, ap, ap₂, subst, ◌∙◌}
 use native.Mathlib.Omega.{arith}
@@ -11,7 +11,7 @@ use lib.IntN.{nat_abs}
 use lib.ListN.{length, get_or}
 use Rattle.strings.specs.declared.Refusal.{Refusal}
 use Rattle.strings.specs.declared.Refusal.TheVariants.{Nothing, Range}
-use Rattle.strings.specs.Numbers.{refusal_paper, Test, test, first_of, place_of, said_by, answer_of, left_by, Answers}
+use Rattle.strings.specs.Numbers.{refusal_paper, Test, test, first_of, place_of, answer_of, left_by}
 use Rattle.strings.proofs.Answer.{refusal_known, refusal_same, refusal_of, not_taken, exactly, first_given}
 use Rattle.strings.proofs.Tests.{past_first}
 use Rattle.strings.proofs.Below.{both}
@@ -28,7 +28,7 @@ use Rattle.station.proofs.Served.{open_says, shut_says_lem, zero_served, past_ga
 use Rattle.station.proofs.Refusals.{Fitting, settles}
 use Rattle.station.proofs.EveryCall.{one}
 use Rattle.navigation_queries.specs.Five.{is_five_at, five_at}
-use Rattle.navigation_queries.specs.Carrier.{has_entry, carrier_at}
+use Rattle.navigation_queries.specs.Carrier.{carrier_at}
 use Rattle.navigation.specs.declared.Answer.{Answer}
 use Rattle.navigation.specs.declared.Answer.TheVariants.{Written, Refused, Lines}
 use Rattle.navigation.specs.Writes.{words_at, n_at, nt_at, tb_at, n4_at, is_there, is_day, is_four_years, place_out, record_bytes, record_tests, quarter_of, quarter_at, text_at, answer_paper, Writes}

@@ -1,7 +1,7 @@
 -- The navigation record of a channel (request 11): "It writes one record from an immediate record, the four-year number of string 5 of the same frame, and
 -- the book's carrier number for n". Of every station, in the words of the station's queries alone.
 -- Assumes nothing.
-use Rattle.std.specs.Prelude.{ℕ, ◌+◌, ◌*◌, Bool, not, ◌&&◌, ◌||◌, List, [], ◌∷◌, ◌++◌, eqb, leb, nat_abs, length}
+use Rattle.std.specs.Prelude.{ℕ, ◌+◌, ◌*◌, Bool, not, ◌&&◌, List, [], ◌∷◌, ◌++◌, eqb, leb, nat_abs, length}
 use Rattle.strings.specs.Pick.{pick}
 use Rattle.strings.specs.Numbers.{refusal_paper, Test, test, test_at, Answers}
 use Rattle.records.specs.declared.named.ImmediateWords.{ImmediateWords}

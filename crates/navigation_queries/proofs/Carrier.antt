@@ -1,22 +1,21 @@
 -- The carrier number of an entry: what `carrier_of` finds, from what `entry_of` does (carrier-refused, carrier-there), once (carriers-once).
 -- Assumes nothing.
 use Prim.Native.Nat.{ℕ, zero, suc}
-use mathlib.Core.List.{List, [], ◌∷◌}
+use mathlib.Core.List.{List, []}
 use mathlib.Core.Path.{◌≡◌, refl, sym, ap, ◌∙◌}
 use lib.IntN.{ℤ}
 use Rattle.strings.specs.declared.Refusal.{Refusal}
-use Rattle.strings.specs.Numbers.{refusal_paper, first_of, place_of, said_by, answer_of}
+use Rattle.strings.specs.Numbers.{refusal_paper, first_of, place_of, said_by}
 use Rattle.strings.proofs.Answer.{refusal_same, not_taken, first_given}
 use Rattle.records.specs.declared.named.OddString.{OddString}
 use Rattle.book.specs.declared.Entry.{Entry}
-use Rattle.book.specs.Entry.{Three, meaning, odd_words}
-use Rattle.book.specs.Book.{in_slot}
+use Rattle.book.specs.Entry.{meaning, odd_words}
 use Rattle.station.specs.declared.Station.{Station}
 use Rattle.station.specs.declared.EntryFound.TheVariants.{Found as FoundEntry, Refused as NoEntry}
-use Rattle.station.specs.Queries.{entry_tests, three_numbers, FindsEntry}
+use Rattle.station.specs.Queries.{entry_tests, FindsEntry}
 use Rattle.navigation_queries.specs.declared.CarrierFound.{CarrierFound}
 use Rattle.navigation_queries.specs.declared.CarrierFound.TheVariants.{Found, Refused}
-use Rattle.navigation_queries.specs.Carrier.{carrier_at, carrier_paper, FindsCarrier}
+use Rattle.navigation_queries.specs.Carrier.{FindsCarrier}
 
 pub one_carrier : {h k : ℤ} → Found h ≡ Found k → h ≡ k
 one_carrier q = cc

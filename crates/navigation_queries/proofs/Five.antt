@@ -2,9 +2,9 @@
 -- any calls by the held frame (five-after).
 -- Assumes nothing.
 use Prim.Native.Nat.{ℕ}
-use mathlib.Core.Bool.{Bool, true, false, not, ◌&&◌, true≢false, false≢true}
-use mathlib.Core.List.{List, [], ◌∷◌, ◌++◌}
-use mathlib.Core.Path.{◌≡◌, refl, sym, ap, ap₂, subst, ◌∙◌}
+use mathlib.Core.Bool.{Bool, true, false, not, ◌&&◌, false≢true}
+use mathlib.Core.List.{List, [], ◌∷◌}
+use mathlib.Core.Path.{◌≡◌, refl, sym, ap, ◌∙◌}
 use borrow.Author.Tests.{eq-eqb, ne_eqb}
 use Rattle.strings.specs.Pick.{pick}
 use Rattle.strings.specs.declared.Refusal.{Refusal}
@@ -17,7 +17,7 @@ use Rattle.channel.specs.declared.Row.{Row}
 use Rattle.channel.specs.Frame.{Frame}
 use Rattle.immediate.specs.Kept.{has_record}
 use Rattle.channel.specs.Row.{is_present, holds_frame, string_in, frame_of, still_holds}
-use Rattle.channel.specs.History.{held_after, makes_record}
+use Rattle.channel.specs.History.{held_after}
 use Rattle.channel.proofs.Frames.{present_held}
 use Rattle.channel.proofs.HeldFrame.{held_is}
 use Rattle.channel.proofs.StillHeld.{still_held}

@@ -1,9 +1,9 @@
 -- The laws of the two queries, whole. Assumes nothing.
 use Prim.Native.Nat.{ℕ}
-use mathlib.Core.List.{List, []}
+use mathlib.Core.List.{[]}
 use mathlib.Core.Logic.{⊎_elim}
 use mathlib.Core.Path.{◌≡◌, refl, sym}
-use Rattle.strings.specs.Numbers.{first_of, left_by, Exactly}
+use Rattle.strings.specs.Numbers.{first_of, left_by}
 use Rattle.strings.proofs.Answer.{exactly}
 use Rattle.station.specs.declared.Station.{Station}
 use Rattle.station.specs.Queries.{entry_tests}

@@ -1,14 +1,13 @@
 -- A join may be exchanged with a call and with another join (site-laws). What is shown, brought to a joined book, is the book that it was brought to, joined
 -- (brought-joined); the summary is the walk on both sides, so equal books have equal summaries.
 -- Assumes nothing.
-use mathlib.Core.Path.{◌≡◌, refl, sym, ap, subst, ◌∙◌}
+use mathlib.Core.Path.{◌≡◌, refl, sym, ap, ◌∙◌}
 use mathlib.Core.Bool.{Bool, true, false}
 use mathlib.Core.List.{List, [], ◌∷◌}
 use Prim.Native.Nat.{ℕ, ◌+◌, ◌≤◌}
 use native.Mathlib.Omega.{arith}
 use borrow.Author.Tests.{eqb-true, eqb-false}
 use lib.Dec.{eqb}
-use lib.ListN.{length}
 use Rattle.strings.specs.Pick.{pick}
 use Rattle.strings.proofs.Answer.{written_same}
 use Rattle.book.specs.declared.Entry.{Entry}
@@ -29,10 +28,7 @@ use Rattle.channel.proofs.Answers.{answer_same}
 use Rattle.shows.specs.Shows.{has_pair, shown_at, shows_of, brought}
 use Rattle.shows.proofs.Shows.{in_book}
 use Rattle.station.specs.declared.Station.{Station}
-use Rattle.station.specs.declared.Stepped.{Stepped}
-use Rattle.station.specs.declared.Emptied.{Emptied}
-use Rattle.station.specs.Station.{row_at, is_served, book_after, station_after, station_reset, OffersTo, Resets}
-use Rattle.station.specs.Demand1.{WellMade}
+use Rattle.station.specs.Station.{row_at, is_served, book_after, station_after, station_reset}
 use Rattle.station.proofs.AfterOffer.{same_station}
 use Rattle.station.proofs.ChannelRuns.{after_none, after_some, reset_none, reset_some}
 use Rattle.station.proofs.EveryHistory.{offer_answers}

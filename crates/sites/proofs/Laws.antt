@@ -2,15 +2,14 @@
 -- Assumes nothing.
 use mathlib.Core.Path.{◌≡◌, refl, sym, ap, subst, ◌∙◌}
 use mathlib.Core.Bool.{Bool, true, false, ◌&&◌, ◌||◌, true≢false}
-use mathlib.Core.Logic.{◌⊎◌, inl, inr, ⊎_elim, ◌↔◌}
-use Prim.Native.Nat.{ℕ, ◌≤◌, ◌<◌}
+use mathlib.Core.Logic.{inl, inr, ⊎_elim, ◌↔◌}
+use Prim.Native.Nat.{ℕ, ◌≤◌}
 use native.Mathlib.Omega.{arith}
 use borrow.Author.Tests.{ltb-false}
 use lib.Dec.{eqb, ltb}
-use lib.ListN.{length}
 use Rattle.book.specs.declared.Entry.{Entry}
 use Rattle.book.specs.declared.Book.{Book}
-use Rattle.book.specs.Entry.{Three, meaning, is_below, greater, blank, Fits}
+use Rattle.book.specs.Entry.{Three, meaning, is_below, greater, Fits}
 use Rattle.book.specs.Book.{slots, in_slot, empty_book, IsBook}
 use Rattle.book.proofs.Order.{blank_fits, greater_left, greater_right, greater_one, greater_same, greater_assoc, greater_comm, greater_of_blank}
 use Rattle.book.proofs.Joins.{empty_full, empty_slot}

@@ -18,8 +18,6 @@ use Rattle.summary.specs.Walk.{walk_of}
 use Rattle.summary.proofs.EmptyBook.{walk_empty}
 use Rattle.channel.specs.History.{held_after}
 use Rattle.station.specs.declared.Station.{Station}
-use Rattle.station.specs.declared.Stepped.{Stepped}
-use Rattle.station.specs.declared.Emptied.{Emptied}
 use Rattle.station.specs.Station.{fresh_station, station_after, station_reset}
 use Rattle.station.specs.History.{Call, Offer, Reset, ShownIn, Runs, station_of, fresh as fresh-run, offering as offering-run, resetting as resetting-run}
 use Rattle.station.specs.Demand3.{BookRule}
@@ -29,7 +27,7 @@ use Rattle.station.proofs.Holding.{Dated, Holding, holding_same, held_once}
 use Rattle.station.proofs.BookRule.{slot_holds, book_full, shown_kept}
 use Rattle.station.proofs.Walked.{Walked}
 use Rattle.sites.specs.Joining.{join_books, site_joined}
-use Rattle.sites.specs.Lives.{Life, Fresh, Then, Joined, own_calls, Lived, fresh, offering, resetting, joining, Within, itself, before, kept, joined, ShownTo, LifeRule, AfterLife, EveryLife, SameStation, life_of, LifeLaws}
+use Rattle.sites.specs.Lives.{Life, Fresh, Then, Joined, own_calls, Lived, fresh, offering, resetting, joining, Within, itself, before, kept, joined, ShownTo, LifeRule, EveryLife, SameStation, life_of, LifeLaws}
 use Rattle.sites.proofs.Slots.{same_slots, slot_is}
 use Rattle.sites.proofs.Laws.{is_joined, is_empty_lem, itself as joined-itself}
 use Rattle.sites.proofs.Exchanges.{grouped, fitting_at, alike, offer_joined, reset_joined, joined_walked}

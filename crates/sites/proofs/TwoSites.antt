@@ -6,15 +6,15 @@ use mathlib.Core.Path.{◌≡◌, refl, sym, ap, ap₂, subst, ◌∙◌}
 use mathlib.Core.Bool.{Bool, true, false, ◌&&◌}
 use mathlib.Core.List.{List, [], ◌∷◌, map}
 use mathlib.Core.Logic.{◌⊎◌, inl, inr, ⊎_elim}
-use Prim.Native.Nat.{ℕ, ◌+◌, ◌-◌, ◌≤◌, ◌<◌}
+use Prim.Native.Nat.{ℕ, ◌+◌, ◌-◌, ◌≤◌}
 use native.Mathlib.Omega.{arith}
 use borrow.Author.Tests.{eq-eqb, eqb-true, eqb-false, ne_eqb, leb-true, leb-false, le-ltb, lt-ltb}
-use lib.Dec.{eqb, leb, ltb}
+use lib.Dec.{eqb, leb}
 use Rattle.strings.specs.Pick.{pick}
 use Rattle.book.specs.declared.Entry.{Entry}
 use Rattle.book.specs.declared.Book.{Book}
 use Rattle.book.specs.declared.Shown.TheVariants.{Nothing, At}
-use Rattle.book.specs.Entry.{Three, meaning, entry_of, is_below, greater, blank}
+use Rattle.book.specs.Entry.{Three, meaning, entry_of, greater, blank}
 use Rattle.book.specs.Shows.{shown_by}
 use Rattle.book.specs.Book.{slots, in_slot}
 use Rattle.book.proofs.Joins.{shown_fits}
@@ -22,16 +22,15 @@ use Rattle.summary.specs.Walk.{walk_of}
 use Rattle.channel.specs.Frame.{Frame}
 use Rattle.channel.specs.History.{Call as OnChannel, held_after}
 use Rattle.shows.specs.Shows.{has_pair, shown_at}
-use Rattle.station.specs.declared.Station.{Station}
-use Rattle.station.specs.Station.{channels, card_channels, last_channel, owner_of, is_card, is_served}
-use Rattle.station.specs.History.{Call, Offer, Reset, card_of, channel_of, itself, is_on, Serving, calls_by, calls_on, Part, whole, ShownBy, ShownIn, GreatestBy, Runs}
+use Rattle.station.specs.Station.{is_served}
+use Rattle.station.specs.History.{Call, Offer, Reset, card_of, channel_of, itself, is_on, Serving, calls_by, calls_on, Part, whole, ShownBy}
 use Rattle.station.proofs.Served.{served_below, owned_served}
 use Rattle.station.proofs.ChannelRuns.{on_another, calls_other}
 use Rattle.station.proofs.Holding.{Dated, Holding, holding_same, held_once}
 use Rattle.station.proofs.BookRule.{slot_holds, book_full}
 use Rattle.station.proofs.Walked.{runs_walked}
 use Rattle.sites.specs.Joining.{join_books}
-use Rattle.sites.specs.TwoSites.{Filled, Unfilled, BookOf, Has, GivenBoth, JoinIsBook, EveryTwoSites, EveryStation, OfCardOne, by_card_two, Mixed, none, first, second, OneStation, EveryTwoCards}
+use Rattle.sites.specs.TwoSites.{Filled, Unfilled, BookOf, Has, GivenBoth, EveryTwoSites, EveryStation, OfCardOne, by_card_two, Mixed, none, first, second, EveryTwoCards}
 use Rattle.sites.proofs.Slots.{same_slots, joined_long, slot_is}
 use Rattle.sites.proofs.Union.{holding_both}
 

@@ -1,11 +1,11 @@
 -- Two slots that hold the greatest of two sets: the greater of them holds the greatest of both sets together (holding-both).
 -- Assumes nothing.
-use mathlib.Core.Path.{◌≡◌, refl, sym, ap, subst, ◌∙◌}
+use mathlib.Core.Path.{◌≡◌, refl, sym, ap, ◌∙◌}
 use mathlib.Core.Bool.{Bool, true, false, true≢false}
 use mathlib.Core.Logic.{◌⊎◌, inl, inr, ⊎_elim}
 use Rattle.strings.specs.Pick.{pick}
 use Rattle.book.specs.declared.Entry.{Entry}
-use Rattle.book.specs.Entry.{Three, meaning, is_below, entry_of, greater, blank}
+use Rattle.book.specs.Entry.{Three, meaning, is_below, greater, blank}
 use Rattle.book.proofs.Order.{below_trans, below_cut, blank_least, blank_below}
 use Rattle.station.proofs.Holding.{Dated, Holding}
 

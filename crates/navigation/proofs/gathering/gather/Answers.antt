@@ -1,0 +1,43 @@
+-- `gathering::gather` meets its contract: by what each query answers. Assumes nothing.
+use mathlib.Core.Path.{◌≡◌, subst}
+use lib.Dec.{lit≤}
+use mir.Syntax.{w32}
+use mir.Val.{to_z, of_z}
+use Rattle.station.specs.Queries.{FindsRecord}
+use Rattle.navigation_queries.specs.Five.{FindsFive}
+use Rattle.navigation_queries.specs.Carrier.{FindsCarrier}
+use Rattle.navigation.proofs.Read.{byte_fits, byte_is}
+use Rattle.navigation.proofs.Found.{five_refused, n_read, no_entry, all_there}
+use borrow.Author.Rules.{rules}
+use Rattle.navigation.proofs.gathering.gather.Goals as goal
+
+pub overflow_cast-words : goal.overflow_cast-words
+overflow_cast-words c =
+    let a = c.args in
+    let found = subst (FindsRecord a.st a.card a.channel) c.in-Found.is c.immediate_of-found.ensures in
+    byte_fits _ (n_read a.st a.card a.channel _ _ found) (lit≤ tt)
+
+pub returns-in-Refused-five : goal.returns-in-Refused-five
+returns-in-Refused-five c =
+    let a = c.args in
+    five_refused a.st a.card a.channel _ (subst (FindsFive a.st a.card a.channel) c.in-Refused-five.is c.five_of-five.ensures)
+
+pub returns-in-Refused-carrier : goal.returns-in-Refused-carrier
+returns-in-Refused-carrier c =
+    let a = c.args in
+    let found = subst (FindsRecord a.st a.card a.channel) c.in-Found.is c.immediate_of-found.ensures in
+    let n = byte_is _ (n_read a.st a.card a.channel _ _ found) (lit≤ tt) in
+    no_entry a.st a.card a.channel _ _ found _ n _ (subst (FindsCarrier a.st a.card _) c.in-Refused-carrier.is c.carrier_of-carrier.ensures)
+
+pub returns-in-Found-carrier : goal.returns-in-Found-carrier
+returns-in-Found-carrier c =
+    let a = c.args in
+    let found = subst (FindsRecord a.st a.card a.channel) c.in-Found.is c.immediate_of-found.ensures in
+    let five = subst (FindsFive a.st a.card a.channel) c.in-Found-five.is c.five_of-five.ensures in
+    let n = byte_is _ (n_read a.st a.card a.channel _ _ found) (lit≤ tt) in
+    let carrier = subst (FindsCarrier a.st a.card _) c.in-Found-carrier.is c.carrier_of-carrier.ensures in
+    let string5 = c.in-Found-five.string5 in
+    let h = c.in-Found-carrier.h in
+    let n4_same : to_z w32 (of_z w32 string5.n4) ≡ string5.n4 = search rules in
+    let h-same : to_z w32 (of_z w32 h) ≡ h = search rules in
+    rw (n4_same, h-same) (all_there a.st a.card a.channel _ _ found _ n _ five _ carrier)
