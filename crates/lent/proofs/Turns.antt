@@ -1,4 +1,4 @@
--- The loop of what is brought to a lent station's book: how many turns it takes, what is brought in each (in_turn), that it is for one of the book's slots
+-- The loop of what is brought to a lent station's book: how many turns it takes, what is brought in each (in_turn), the station after some (left_after), that it is for one of the book's slots
 -- (one_in, newly-in), and that all turns together bring all that is shown (all-brought, all_changed).
 -- Assumes nothing.
 use Prim.Native.Nat.{ℕ, zero, suc}
@@ -14,6 +14,8 @@ use Rattle.book.specs.Book.{InBook}
 use Rattle.channel.specs.Frame.{Frame}
 use Rattle.shows.specs.Shows.{newly_shown, brought, changes}
 use Rattle.shows.specs.Changes.{AllInBook}
+use Rattle.station.specs.declared.Station.{Station}
+use Rattle.station.specs.Station.{corrected}
 use Rattle.shows.proofs.Shows.{in_book}
 use Rattle.shows.proofs.Turns.{up_to, changed_to, five_brought, five_changed}
 
@@ -23,6 +25,13 @@ turns = 5
 -- what is brought in a turn
 abbrev pub in_turn : List Shown → ℕ → Shown
 in_turn xs j = get_or xs j Nothing
+
+-- the station after some turns, and with the summary that it then has
+abbrev pub left_after : Station → List Shown → ℕ → Station
+left_after st xs j = record { rows = st.rows; book = up_to st.book (in_turn xs) j; summary = st.summary }
+
+abbrev pub summed : Station → Bool → Station
+summed st changed = record { rows = st.rows; book = st.book; summary = corrected changed st.book st.summary }
 
 -- a turn's own change, with those before it
 pub or_before : (a b : Bool) → (a || b) ≡ (b || a)

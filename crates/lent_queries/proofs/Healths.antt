@@ -5,10 +5,10 @@
 use mathlib.Core.Path.{◌≡◌, refl, sym, ap, ◌∙◌}
 use mathlib.Core.List.{List, [], ◌∷◌}
 use mathlib.Core.Bool.{Bool, true, false, not, ◌&&◌}
-use Prim.Native.Nat.{ℕ, ◌-◌, ◌*◌, ◌≤◌}
+use Prim.Native.Nat.{ℕ, ◌-◌, ◌*◌, ◌<◌, ◌≤◌}
 use native.Mathlib.Omega.{arith}
 use borrow.Author.Tests.{leb-true, le-leb}
-use lib.Dec.{T, eqb, leb, ltb}
+use lib.Dec.{eqb, leb}
 use Rattle.strings.specs.Pick.{pick}
 use Rattle.strings.specs.Numbers.{first_of}
 use Rattle.book.specs.declared.Entry.{Entry}
@@ -63,7 +63,7 @@ module _ (st : Station) (card c : ℕ) where
   abbrev told : List ℕ
   told = health_number (health_by (kept_at st c) st.book) ∷ []
 
-  pub health_shut : (z : ℕ) → z ≡ first_of (gate_tests card c) → T (ltb 0 z) → TellsHealth st card c z
+  pub health_shut : (z : ℕ) → z ≡ first_of (gate_tests card c) → 0 < z → TellsHealth st card c z
   unfolding TellsHealth
   health_shut z e t =
       let p = shut_out card c z e t in

@@ -4,10 +4,10 @@
 use mathlib.Core.Path.{◌≡◌, refl, sym, ap, ◌∙◌}
 use mathlib.Core.Bool.{Bool, true, false, not}
 use mathlib.Core.List.{List, [], ◌∷◌, ◌++◌}
-use Prim.Native.Nat.{ℕ, zero, suc, ◌<◌}
+use Prim.Native.Nat.{ℕ, zero, suc, ◌<◌, ◌≤◌}
 use native.Mathlib.Omega.{arith}
 use borrow.Author.Tests.{eq-eqb, ne_eqb}
-use lib.Dec.{T, eqb, ltb, ltb→lt, nltb→le}
+use lib.Dec.{T, eqb}
 use lib.ListN.{length}
 use Rattle.strings.specs.Pick.{pick}
 use Rattle.strings.specs.Numbers.{Test, test, first_of, said_by, answer_of}
@@ -51,16 +51,15 @@ module _ {X : Type 0} (made out : X) where
   left_as_was : (k : ℕ) → 0 < k → out ≡ pick (eqb k 0) made out
   left_as_was k l = rw (ne_eqb k 0 (λ e. omega (arith, e, l)))
 
-  -- a walk tests the number z of the tests that stand first for 0
-  pub stopped : (us ts : List Test) (z : ℕ) → T (placeless (us ++ ts)) → z ≡ first_of us → T (ltb 0 z) → Tells (us ++ ts) made out out z
-  stopped us ts z p e t =
-      let l = ltb→lt 0 z t in
+  -- a call tests the number z of the tests that stand first for 0
+  pub stopped : (us ts : List Test) (z : ℕ) → T (placeless (us ++ ts)) → z ≡ first_of us → 0 < z → Tells (us ++ ts) made out out z
+  stopped us ts z p e l =
       let f = first_stops us ts z e l in
       record { answer = sym f ∙ sym (number_of (us ++ ts) p); output = left_as_was z l ∙ ap (λ (k : ℕ). pick (eqb k 0) made out) (sym f) }
 
-  pub let_through : (us ts : List Test) (out' : X) (z r : ℕ) → T (placeless (us ++ ts)) → T (placeless ts) → T (all_of is_number us) → z ≡ first_of us → T (not (ltb 0 z)) → Tells ts made out out' r → Tells (us ++ ts) made out out' r
+  pub let_through : (us ts : List Test) (out' : X) (z r : ℕ) → T (placeless (us ++ ts)) → T (placeless ts) → T (all_of is_number us) → z ≡ first_of us → z ≤ 0 → Tells ts made out out' r → Tells (us ++ ts) made out out' r
   let_through us ts out' z r p p' a e n g =
-      let none : z ≡ 0 = omega (arith, nltb→le 0 z n) in
+      let none : z ≡ 0 = omega arith in
       let f = first_passes us ts a (sym e ∙ none) in
       record { answer = g.answer ∙ number_of ts p' ∙ sym f ∙ sym (number_of (us ++ ts) p); output = g.output ∙ ap (λ (k : ℕ). pick (eqb k 0) made out) (sym f) }
 

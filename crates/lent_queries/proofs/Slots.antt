@@ -1,13 +1,13 @@
 -- The tests of a call on a slot: what the number of the card's leaves to that of the slot's (slot-low, slot-high, slot-good), and a call that is let in names one
--- of the slots (slot-known). A record's slot that is not 0 has its place in the book (not-zero, at_least_one, in-book, place-wide).
+-- of the slots (slot-known). A record's slot that is not 0 has its place in the book (at_least_one, in_book, place_wide).
 -- Assumes nothing.
-use mathlib.Core.Path.{◌≡◌, refl, sym, ap, subst, ◌∙◌}
+use mathlib.Core.Path.{◌≡◌, refl, sym, ap, ◌∙◌}
 use mathlib.Core.Bool.{Bool, true, false, not, ◌&&◌, true≢false}
 use mathlib.Core.List.{[], ◌∷◌}
 use Prim.Native.Nat.{ℕ, ◌-◌, ◌≤◌, ◌<◌, ◌^◌}
 use native.Mathlib.Omega.{arith}
 use borrow.Author.Tests.{le-leb, lt-leb, leb-true, not-false}
-use lib.Dec.{T, eqb, leb, ltb, nltb→le, T_not}
+use lib.Dec.{leb}
 use Rattle.strings.specs.Pick.{pick}
 use Rattle.strings.specs.Numbers.{test, first_of}
 use Rattle.strings.proofs.Tests.{past_first}
@@ -38,21 +38,18 @@ both true true e = (refl, refl)
 both true false e = absurd (true≢false (sym e))
 both false u e = absurd (true≢false (sym e))
 
-pub slot_known : (card k z : ℕ) → z ≡ first_of (slot_tests card k) → T (not (ltb 0 z)) → (1 ≤ k) × (k ≤ slots)
+pub slot_known : (card k z : ℕ) → z ≡ first_of (slot_tests card k) → z ≤ 0 → (1 ≤ k) × (k ≤ slots)
 slot_known card k z e n =
-    let none : z ≡ 0 = omega (arith, nltb→le 0 z n) in
+    let none : z ≡ 0 = omega arith in
     let p = past_first 15 (not (is_card card)) (test 14 (not (is_slot k)) ∷ []) (sym e ∙ none) in
     let q = not-false (is_slot k) (past_first 13 (not (is_slot k)) [] p.1).0 in
     let r = both (leb 1 k) (leb k slots) q in
     (leb-true 1 k r.0, leb-true k slots r.1)
 
 -- a slot that is not 0: its place is one of the book's
-pub not_zero : (s : ℕ) → T (not (eqb s 0)) → s ≡ 0 → ⊥
-not_zero s f e = T_not (eqb s 0) f (subst (λ (n : ℕ). T (eqb n 0)) (sym e) tt)
-
-module _ (s : ℕ) (f : T (not (eqb s 0))) (l : s ≤ slots) where
+module _ (s : ℕ) (f : s ≡ 0 → ⊥) (l : s ≤ slots) where
   pub at_least_one : 1 ≤ s
-  at_least_one = omega (arith, not_zero s f)
+  at_least_one = omega (arith, f)
 
   pub in_book : s - 1 < slots
   in_book = omega (arith, at_least_one, l)

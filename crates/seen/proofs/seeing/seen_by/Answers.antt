@@ -1,0 +1,7 @@
+-- `seeing::seen_by` meets its contract: each return rewrites with the variant that led there. Assumes nothing.
+use Rattle.seen.specs.Seen.{seen_by}
+use Rattle.seen.proofs.seeing.seen_by.Goals as goal
+
+pub returns-in-Taken : goal.returns-in-Taken
+unfolding seen_by
+returns-in-Taken c = rw (c.in-Taken.is, c.bit_in.ensures, c.polarity_number.ensures)
