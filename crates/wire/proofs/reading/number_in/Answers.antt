@@ -1,0 +1,18 @@
+-- `reading::number_in` meets its contract. The invariant: x is the number of the bytes passed (`Read`). Assumes nothing.
+use Prim.Native.Nat.{ℕ, ◌*◌, ◌^◌, ◌≤◌}
+use native.Mathlib.Omega.{arith}
+use lib.Pow.{pow_mono}
+use Rattle.wire.proofs.Numbers.{read_more}
+use Rattle.wire.proofs.reading.number_in.Goals as goal
+
+-- one byte more finds room
+room : (i : ℕ) → i ≤ 7 → 2 ^ (8 * i) ≤ 2 ^ 56
+room i h = pow_mono {i = 8 * i} {j = 56} (omega arith)
+
+pub overflow_mul-x : goal.overflow_mul-x
+overflow_mul-x c = let l = c.loop-i in omega (arith, l.invariant.small, room l.i (omega (arith, c.requires)))
+
+pub loop-i-preserved : goal.loop-i-preserved
+loop-i-preserved c =
+    let l = c.loop-i in
+    read_more _ l.i l.x (omega arith) (c.shared_slice_known-1.given l.i).fits l.invariant
