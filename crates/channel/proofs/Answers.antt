@@ -1,7 +1,7 @@
 -- An answer by its numbers: what it counts as, whether it tells of a record; and that no second answer has the same.
 -- Assumes nothing.
 use mathlib.Core.Path.{◌≡◌, refl, sym, ap, ap₂, ◌∙◌}
-use mathlib.Core.Bool.{Bool, true, false}
+use mathlib.Core.Bool.{false}
 use mathlib.Core.List.{List, [], ◌∷◌, ◌++◌}
 use Prim.Native.Nat.{ℕ, zero, suc}
 use native.Mathlib.Omega.{arith}
@@ -9,10 +9,9 @@ use borrow.Author.Tests.{ne_eqb}
 use lib.Dec.{eqb}
 use lib.ListN.{get_or}
 use Rattle.strings.specs.Pick.{pick}
-use Rattle.strings.specs.declared.Refusal.{Refusal}
 use Rattle.strings.specs.declared.Verdict.{Verdict}
 use Rattle.strings.specs.declared.Verdict.TheVariants.{Clean, Repaired}
-use Rattle.strings.specs.Numbers.{refusal_paper, said_by}
+use Rattle.strings.specs.Numbers.{said_by}
 use Rattle.strings.proofs.Answer.{refusal_same, not_taken}
 use Rattle.channel.specs.declared.News.{News}
 use Rattle.channel.specs.declared.News.TheVariants.{AlreadyHeld, Kept, RecordBuilt, RecordOutOfRange}

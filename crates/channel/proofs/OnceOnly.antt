@@ -14,7 +14,6 @@ use Rattle.strings.specs.declared.Verdict.{Verdict}
 use Rattle.strings.specs.Numbers.{Test, Exactly, left_by, first_of, place_of, said_by}
 use Rattle.strings.specs.Calls.{sound_tests}
 use Rattle.strings.proofs.Answer.{exactly}
-use Rattle.channel.specs.declared.News.{News}
 use Rattle.channel.specs.declared.News.TheVariants.{AlreadyHeld, Kept, RecordBuilt, RecordOutOfRange}
 use Rattle.channel.specs.declared.Answer.{Answer}
 use Rattle.channel.specs.declared.Answer.TheVariants.{Taken, Refused}

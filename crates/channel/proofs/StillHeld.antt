@@ -1,20 +1,19 @@
 -- Frames only go on, so a start tells a frame: a channel's record has a frame that is held, or one that began before it (not-later); and where the two starts are the
 -- same, it is the held frame itself, whose strings 1..4 are there and in range (same_start). So of the row that any calls left (still-held).
 -- Assumes nothing.
-use mathlib.Core.Path.{◌≡◌, refl, sym, ap, ap₂, ◌∙◌}
-use mathlib.Core.Bool.{Bool, true, false, ◌&&◌, ◌||◌, true≢false, false≢true}
+use mathlib.Core.Path.{◌≡◌, refl, sym, ap, ◌∙◌}
+use mathlib.Core.Bool.{Bool, true, false, true≢false, false≢true}
 use mathlib.Core.List.{List, [], ◌∷◌}
-use Prim.Native.Nat.{ℕ, ◌+◌, ◌≤◌, ◌<◌}
+use Prim.Native.Nat.{ℕ, ◌≤◌, ◌<◌}
 use native.Mathlib.Omega.{arith}
 use borrow.Author.Tests.{eqb-true, eqb-false, eq-eqb, lt-leb, ltb-false}
 use lib.Arith.{lt_of_le-ne}
-use lib.Dec.{eqb, leb, ltb}
+use lib.Dec.{eqb, leb}
 use Rattle.strings.specs.Pick.{pick}
 use Rattle.strings.specs.Numbers.{first_of}
 use Rattle.strings.proofs.Below.{both}
 use Rattle.words.specs.Calls.{number_in}
 use Rattle.hearing.specs.Hears.{whole_of}
-use Rattle.immediate.specs.declared.Immediate.{Immediate}
 use Rattle.immediate.specs.Kept.{has_record}
 use Rattle.channel.specs.declared.Row.{Row}
 use Rattle.channel.specs.Frame.{Frame, empty_frame, with_string, start_of, is_of_frame, is_here, frame_for, after_string, is_complete}

@@ -1,7 +1,7 @@
 -- A channel's row (the paper, "A channel row holds fifteen strings of one frame, its start, which of them are present, the latest immediate record,
 -- and four tallies", to which request 9 added ten): the frame that it holds, and what becomes of its bytes. Every value has a meaning.
 -- Assumes nothing.
-use Rattle.std.specs.Prelude.{ℕ, ◌-◌, ◌*◌, ◌/◌, ◌%◌, ◌^◌, Bool, true, false, not, ◌&&◌, List, [], ◌∷◌, eqb, leb, replicate}
+use Rattle.std.specs.Prelude.{ℕ, ◌-◌, ◌*◌, ◌/◌, ◌%◌, ◌^◌, Bool, true, false, not, ◌&&◌, List, eqb, leb, replicate}
 use Rattle.std.specs.Int.Bits.{bit_or}
 use Rattle.std.proofs.lemmas.List.Edits.{sets}
 use Rattle.strings.specs.Pick.{pick}

@@ -22,7 +22,6 @@ use Rattle.channel.specs.Row.{is_present, holds_frame, empty_row, new_frame, sto
 use Rattle.channel.specs.Offers.{taken_row}
 use Rattle.shows.specs.Shows.{frame_by, brought, changes}
 use Rattle.channel.specs.Witness.{five, six1, seven, fourteen, fifteen}
-use Rattle.station.specs.declared.Station.{Station}
 use Rattle.station.specs.Station.{fresh_station, no_row, is_served, station_after, station_reset}
 use Rattle.station.specs.History.{Call, Offer, station_of}
 use Rattle.station.proofs.EveryHistory.{every_history}

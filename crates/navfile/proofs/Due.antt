@@ -6,10 +6,9 @@ use mathlib.Core.List.Memᴰ
 use mathlib.Core.List.{List, [], ◌∷◌, ◌++◌, Memᴰ}
 use mathlib.Core.Logic.{⊎_elim}
 use mathlib.Core.Path.{◌≡◌, refl, ap, ◌∙◌}
-use lib.ListN.{length, length-set}
 use Rattle.strings.specs.Pick.{pick}
 use Rattle.strings.proofs.Below.{both}
-use Rattle.navfile.specs.File.{Ask, satellite_of, epoch_of, is_answered, is_new, is_due, noted, noted_by, due_of, written_after}
+use Rattle.navfile.specs.File.{Ask, is_answered, is_new, is_due, noted, noted_by, due_of, written_after}
 
 module _ (card : ℕ) (w : List ℕ) (a : Ask) where
   pub due_answered : is_due card w a ≡ true → is_answered card a ≡ true

@@ -87,7 +87,7 @@ module _ (card : ℕ) where
         ⊎_elim
         (λ (q : get_or none_written (satellite_of a) 0 ≡ epoch_of a).
         let z : get_or none_written (satellite_of a) 0 ≡ 0 = get_or-replicate 25 (satellite_of a) 0 0 (omega (arith, p.slot_most)) in
-        absurd (omega (arith, p.epoch-least)))
+        absurd (omega (arith, p.epoch_least)))
         (λ (f : Found a (due_of card none_written asks)). f) (written-or-found none_written asks refl m)
 
   -- ---- neighbours

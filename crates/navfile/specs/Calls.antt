@@ -1,6 +1,6 @@
 -- What is written into a text of an office, piece by piece: of one ask, of one record, of a block of records, and at the end.
 -- Assumes nothing.
-use Rattle.std.specs.Prelude.{ℕ, ◌≤◌, not, List, [], ◌∷◌, ◌≡◌, eqb, length, get_or, set}
+use Rattle.std.specs.Prelude.{ℕ, ◌≤◌, List, [], ◌∷◌, ◌≡◌, length, get_or}
 use Rattle.strings.specs.Pick.{pick}
 use Rattle.digits.specs.Text.{Puts}
 use Rattle.station.specs.Station.{fresh_station}

@@ -12,7 +12,7 @@ use Rattle.strings.specs.Table413.{◌to◌}
 use Rattle.strings.proofs.Below.{below_at}
 use Rattle.words.proofs.WordBits.{word_lt}
 use Rattle.channel.specs.Frame.{Frame}
-use Rattle.shows.specs.Shows.{frame_by, frame_number}
+use Rattle.shows.specs.Shows.{frame_by}
 use Rattle.shows.specs.FrameNumbers.{frames_by, table_4_1, NumberBySix}
 
 -- what the table says at one nA

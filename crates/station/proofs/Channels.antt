@@ -7,10 +7,9 @@ use mathlib.Core.List.{List, [], ◌∷◌, ◌++◌}
 use mathlib.Core.Logic.{◌↔◌, inl, inr, ⊎_elim}
 use Prim.Native.Nat.{ℕ, ◌≤◌, ◌<◌}
 use native.Mathlib.Omega.{arith}
-use borrow.Author.Tests.{lt-ltb, le-ltb, ltb-true, ltb-false, eqb-true, eqb-false, eq-eqb, ne_eqb}
+use borrow.Author.Tests.{lt-ltb, le-ltb, ltb-true, ltb-false, eqb-true, eqb-false, ne_eqb}
 use lib.Dec.{T, eqb, ltb, lit<}
 use lib.ListN.{length, get_or}
-use Rattle.strings.specs.Pick.{pick}
 use Rattle.strings.specs.Numbers.{Test, answer_of, Exactly}
 use Rattle.station.specs.declared.Station.{Station}
 use Rattle.station.specs.Station.{card_channels, last_channel, owner_of, is_card, is_served, gate_tests, card_test}

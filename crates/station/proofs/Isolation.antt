@@ -1,7 +1,7 @@
 -- Two cards on one book: a call by another card leaves a card's rows (others-leave), a card's own calls are answered by its own rows (answered-alike), and
 -- so over any calls (isolated). Each answer and each station is computed from the calls (saidFrom, stationFrom), so that the lists need one induction each.
 -- Assumes nothing.
-use Prim.Native.Nat.{ℕ, ◌<◌}
+use Prim.Native.Nat.{ℕ}
 use mathlib.Core.Bool.{Bool, true, false, not, true≢false}
 use mathlib.Core.List.{List, [], ◌∷◌, ◌++◌}
 use mathlib.Core.Path.{◌≡◌, refl, sym, ap, ap₂, subst, ◌∙◌}
@@ -13,22 +13,20 @@ use Rattle.strings.specs.Numbers.{Test, test, answer_of}
 use Rattle.strings.proofs.Answer.{refusal_same, not_taken, written_same}
 use Rattle.channel.specs.declared.Row.{Row}
 use Rattle.channel.specs.Row.{frame_of}
-use Rattle.channel.specs.Offers.{answer_paper, offer_tests, told_to, offered_row}
+use Rattle.channel.specs.Offers.{offer_tests, told_to, offered_row}
 use Rattle.channel.proofs.Answers.{answer_same}
 use Rattle.records.specs.declared.named.ImmediateWords.{ImmediateWords}
 use Rattle.words.specs.Immediate.{immediate_of}
 use Rattle.immediate.specs.Kept.{has_record}
 use Rattle.station.specs.declared.Station.{Station}
-use Rattle.station.specs.declared.Stepped.{Stepped}
-use Rattle.station.specs.declared.Emptied.{Emptied}
 use Rattle.station.specs.declared.RecordFound.{RecordFound}
 use Rattle.station.specs.declared.RecordFound.TheVariants.{Found as FoundRecord, Refused as NoRecord}
-use Rattle.station.specs.Station.{channels, owner_of, row_at, is_served, gate_tests, station_tests, told_in, station_after, OffersTo, station_reset, Resets, shut_says}
+use Rattle.station.specs.Station.{channels, owner_of, row_at, is_served, gate_tests, station_tests, told_in, station_after, station_reset, shut_says}
 use Rattle.station.specs.Queries.{record_paper, FindsRecord, all_counts, FindsTallies}
 use Rattle.station.specs.Demand1.{WellMade}
 use Rattle.station.specs.History.{Call, Offer, Reset, card_of}
 use Rattle.station.specs.Said.{Said, said, RunsFrom, none, offers, resets, calls_of}
-use Rattle.station.specs.Isolation.{AgreeFor, OthersLeave, AnsweredAlike, is_by, said_by, Isolated, EveryIsolated}
+use Rattle.station.specs.Isolation.{AgreeFor, OthersLeave, AnsweredAlike, said_by, EveryIsolated}
 use Rattle.station.proofs.Served.{shut_says_lem, shut_not_zero, served_below, owner_is}
 use Rattle.station.proofs.ChannelRuns.{after_own, after_apart, reset_own, reset_apart}
 use Rattle.station.proofs.EveryHistory.{some_answer, offer_answers, reset_answer, reset_answers}

@@ -4,9 +4,8 @@
 use mathlib.Core.Path.{◌≡◌, refl, sym, ap, ap₂, subst, ◌∙◌}
 use mathlib.Core.Bool.{Bool, true, false, true≢false, ◌&&◌}
 use mathlib.Core.List.{List, [], ◌∷◌}
-use mathlib.Core.Logic.{◌⊎◌, inl, inr, ⊎_elim}
+use mathlib.Core.Logic.{inl, inr, ⊎_elim}
 use Prim.Native.Nat.{ℕ, zero, suc, ◌+◌, ◌≤◌}
-use native.Mathlib.Omega.{arith}
 use borrow.Author.Tests.{eqb-true, eq-eqb}
 use lib.Dec.{eqb}
 use lib.ListN.{get_or}
@@ -23,7 +22,6 @@ use Rattle.channel.proofs.HeldFrame.{frame_after_lem}
 use Rattle.channel.proofs.Relock.{relock_row}
 use Rattle.station.specs.declared.Station.{Station}
 use Rattle.station.specs.declared.Stepped.{Stepped}
-use Rattle.station.specs.declared.Emptied.{Emptied}
 use Rattle.station.specs.Station.{owner_of, row_at, held_at, is_served, told_in, OffersTo}
 use Rattle.station.specs.History.{Call, Offer, Reset, card_of, channel_of}
 use Rattle.station.specs.Said.{Said, said, RunsFrom, none, offers, resets, Among}

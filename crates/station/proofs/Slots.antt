@@ -6,15 +6,13 @@ use mathlib.Core.List.{List, [], ◌∷◌}
 use mathlib.Core.Logic.{◌⊎◌, inl, inr, ⊎_elim, ◌↔◌}
 use Prim.Native.Nat.{ℕ, ◌≤◌, ◌<◌}
 use native.Mathlib.Omega.{arith}
-use borrow.Author.Tests.{lt-leb, leb-true, leb-false}
+use borrow.Author.Tests.{leb-true, leb-false}
 use lib.Dec.{leb}
 use lib.ListN.{get_or}
 use Rattle.strings.specs.Numbers.{test, answer_of}
 use Rattle.book.specs.Entry.{meaning}
 use Rattle.book.specs.Book.{slots, in_slot}
-use Rattle.station.specs.declared.Station.{Station}
-use Rattle.station.specs.declared.EntryFound.{EntryFound}
-use Rattle.station.specs.Queries.{is_empty, three_numbers, entry_paper, FindsEntry}
+use Rattle.station.specs.Queries.{is_empty, three_numbers, entry_paper}
 use Rattle.station.specs.Slots.{SlotExactly}
 
 pub slot_exactly : SlotExactly

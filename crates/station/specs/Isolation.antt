@@ -2,7 +2,7 @@
 -- entries, the summary, and health, which reads the book, may differ." Of every station. The proof stands in `proofs/Isolation.antt`, and what does
 -- differ is computed in the crate `histories`.
 -- Assumes nothing.
-use Rattle.std.specs.Prelude.{ℕ, ◌<◌, Bool, List, [], ◌∷◌, map, ◌≡◌, eqb}
+use Rattle.std.specs.Prelude.{ℕ, ◌<◌, Bool, List, [], ◌∷◌, ◌≡◌, eqb}
 use Rattle.strings.specs.Pick.{pick}
 use Rattle.station.specs.declared.Station.{Station}
 use Rattle.station.specs.declared.Stepped.{Stepped}
@@ -12,7 +12,7 @@ use Rattle.station.specs.declared.TalliesFound.{TalliesFound}
 use Rattle.station.specs.Station.{channels, owner_of, row_at, OffersTo, Resets}
 use Rattle.station.specs.Queries.{FindsRecord, FindsTallies}
 use Rattle.station.specs.Demand1.{WellMade}
-use Rattle.station.specs.History.{Call, card_of}
+use Rattle.station.specs.History.{card_of}
 use Rattle.station.specs.Said.{Said, RunsFrom, calls_of}
 
 -- two stations agree for a card where the rows of its channels are equal

@@ -14,7 +14,7 @@ use lib.Seq.{take-suc, take-suc-set, drop-cons}
 use Rattle.strings.specs.Pick.{pick}
 use Rattle.strings.specs.Number.{word_of}
 use Rattle.layout.specs.declared.table.Word.{Word}
-use Rattle.layout.specs.Layout.{layout, none}
+use Rattle.layout.specs.Layout.{none}
 use Rattle.words.specs.Values.{value_in, code_in, in_range, values_of, first_bad, data_of}
 
 -- ---- a loop over the eight places

@@ -7,7 +7,7 @@ use Prim.Native.Nat.{ℕ, zero, suc, ◌+◌, ◌-◌, ◌*◌, ◌^◌, ◌≤�
 use native.Mathlib.Omega.{arith}
 use borrow.Author.Tests.{eqb-true, eqb-false, lt-ltb, le-ltb, le-leb, lt-leb}
 use lib.Dec.{eqb, lit≤}
-use lib.IntN.{ℤ, pos, neg_ℤ, sub_ℕ, ◌+ℤ◌}
+use lib.IntN.{pos, neg_ℤ, sub_ℕ, ◌+ℤ◌}
 use lib.ListN.{length, take, drop}
 use lib.Seq.{take_all, take_at, drop_at, drop-drop}
 use Rattle.strings.specs.Pick.{pick}

@@ -1,6 +1,5 @@
 -- `hear` meets its contract: the relative code refuses, or the check decides (`Hearing`). Assumes nothing.
 use mathlib.Core.Path.{refl}
-use borrow.Author.Rules.{rules}
 use Rattle.hearing.proofs.Hearing.{hears_no, hears_on}
 use Rattle.hearing.proofs.hear.Goals as goal
 

@@ -1,5 +1,4 @@
 -- `are_good` meets its contract: strings 3 and 4 have no word that can be out of range. Assumes nothing.
-use borrow.Author.Rules.{rules}
 use Rattle.words.specs.Immediate.{string_at}
 use Rattle.immediate.proofs.Good.{four_good_lem}
 use Rattle.immediate.proofs.are_good.Goals as goal

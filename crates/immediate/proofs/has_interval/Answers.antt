@@ -1,7 +1,6 @@
 -- `has_interval` meets its contract. Assumes nothing.
 use Prim.Native.Nat.{◌<◌, ◌≤◌}
 use native.Mathlib.Omega.{arith}
-use borrow.Author.Rules.{rules}
 use borrow.Author.Tests.{lt-leb, le-leb}
 use lib.Dec.{lit≤}
 use Rattle.strings.specs.Number.{number_of, word_of}

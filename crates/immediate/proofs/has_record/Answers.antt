@@ -1,8 +1,4 @@
 -- `has_record` meets its contract: by what `are_good` says of its 44 bytes. Assumes nothing.
-use mathlib.Core.Path.{◌≡◌}
-use native.Mathlib.Omega.{arith}
-use borrow.Author.Rules.{rules}
-use lib.ListN.{length}
 use Rattle.immediate.specs.Kept.{has_record}
 use Rattle.immediate.proofs.has_record.Goals as goal
 

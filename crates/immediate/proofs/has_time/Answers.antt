@@ -1,6 +1,5 @@
 -- `has_time` meets its contract: the hour and the minute in tk are the words 76..72 and 71..66. Assumes nothing.
 use Prim.Native.Nat.{◌/◌}
-use borrow.Author.Rules.{rules}
 use borrow.Author.Tests.{lt-ltb, le-ltb}
 use lib.Dec.{lit≤}
 use Rattle.strings.specs.Number.{number_of}

@@ -1,8 +1,6 @@
 -- `completing::news_at` meets its contract: the news said of the mask and of the first four strings. Assumes nothing.
 use Prim.Native.Nat.{◌%◌}
-use native.Mathlib.Omega.{arith}
-use borrow.Author.Rules.{rules}
-use borrow.Author.Tests.{le-leb, lt-leb, ne_eqb}
+use borrow.Author.Tests.{le-leb, ne_eqb}
 use Rattle.channel.proofs.Four.{news_is, four_news}
 use Rattle.channel.proofs.completing.news_at.Goals as goal
 

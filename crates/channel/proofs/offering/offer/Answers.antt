@@ -1,9 +1,6 @@
 -- `offering::offer` meets its contract: the row put together again, its record and its tallies by the answer (`Settling`). Assumes nothing.
 use mathlib.Core.Path.{◌≡◌, sym, ap, ◌∙◌}
 use mathlib.Core.Bool.{Bool}
-use mathlib.Core.List.{List}
-use mathlib.Core.Logic.{⊎_elim}
-use Prim.Native.Nat.{ℕ}
 use Rattle.tallies.specs.declared.Tallies.{Tallies}
 use Rattle.tallies.specs.Tallies.{after_offer}
 use Rattle.channel.specs.declared.Row.{Row}
@@ -11,7 +8,6 @@ use Rattle.immediate.specs.Kept.{record_by}
 use Rattle.channel.specs.Row.{Held, held_in, held_of, holding, counted}
 use Rattle.channel.specs.Offers.{outcome_of, tells_record}
 use Rattle.channel.proofs.Settling.{placed_whole, offers_by}
-use borrow.Author.Rules.{rules}
 use Rattle.channel.proofs.offering.offer.Goals as goal
 use Rattle.channel.proofs.offering.offer.Goals.{then-is_built, else-is_built}
 
@@ -33,8 +29,8 @@ kept c =
     let by : Bool → Row = λ (t : Bool). holding row h (record_by t h.start h.bytes row.immediate) in
     let e = c.is_built.ensures in
     elim c.if-is_built.branch [
-      then-is_built w ↦ w.row-is ∙ ap (holding row h) w.first_four-record.ensures ∙ ap by (sym w.if-is_built.true ∙ e)
-    | else-is_built w ↦ w.row-is ∙ ap by (sym w.if-is_built.false ∙ e)
+      | then-is_built w ↦ w.row-is ∙ ap (holding row h) w.first_four-record.ensures ∙ ap by (sym w.if-is_built.true ∙ e)
+      | else-is_built w ↦ w.row-is ∙ ap by (sym w.if-is_built.false ∙ e)
     ]
 
 pub told_with-answer-requires : goal.told_with-answer-requires

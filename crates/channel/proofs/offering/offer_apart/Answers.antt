@@ -1,7 +1,6 @@
 -- `offering::offer_apart` meets its contract: what is heard refuses, or is placed (`Settling`). Assumes nothing.
 use Rattle.channel.specs.Row.{Held, held_in}
 use Rattle.channel.proofs.Settling.{heard_no, heard_shaped, heard_on_lem}
-use borrow.Author.Rules.{rules}
 use Rattle.channel.proofs.offering.offer_apart.Goals as goal
 
 -- what is held

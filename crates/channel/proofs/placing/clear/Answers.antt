@@ -1,11 +1,6 @@
 -- `placing::clear` meets its contract: after i turns the first i bytes are 0. Assumes nothing.
-use mathlib.Core.Path.{◌≡◌, refl, sym, ap, ◌∙◌}
-use Prim.Native.Nat.{ℕ, ◌-◌, ◌≤◌}
 use native.Mathlib.Omega.{arith}
-use lib.ListN.{length, replicate}
-use lib.Seq.{paste, paste-zero}
-use borrow.Author.Rules.{rules}
-use Rattle.channel.proofs.Storing.{cleared_long, cleared_more, cleared_all}
+use Rattle.channel.proofs.Storing.{cleared_more}
 use Rattle.channel.proofs.placing.clear.Goals as goal
 
 pub loop-i-preserved : goal.loop-i-preserved

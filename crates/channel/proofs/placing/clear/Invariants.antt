@@ -1,11 +1,8 @@
 -- `placing::clear` meets its contract: after i turns the first i bytes are 0. Assumes nothing.
-use mathlib.Core.Path.{◌≡◌, refl, sym, ap, ◌∙◌}
-use Prim.Native.Nat.{ℕ, ◌-◌, ◌≤◌}
-use native.Mathlib.Omega.{arith}
-use lib.ListN.{length, replicate}
-use lib.Seq.{paste, paste-zero}
-use borrow.Author.Rules.{rules}
-use Rattle.channel.proofs.Storing.{cleared_long, cleared_more, cleared_all}
+use mathlib.Core.Path.{◌≡◌}
+use Prim.Native.Nat.{◌-◌, ◌≤◌}
+use lib.ListN.{replicate}
+use lib.Seq.{paste}
 use Rattle.channel.proofs.placing.clear.Given as goal
 
 abbrev pub invariant-loop-i : goal.invariant-loop-i

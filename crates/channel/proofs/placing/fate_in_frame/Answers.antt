@@ -1,16 +1,9 @@
 -- `placing::fate_in_frame` meets its contract: the string is new in the held frame, held already, or in conflict. Assumes nothing.
-use mathlib.Core.Path.{◌≡◌, sym, ap, ◌∙◌}
-use Prim.Native.Nat.{ℕ, ◌+◌, ◌-◌, ◌*◌, ◌≤◌}
+use Prim.Native.Nat.{◌≤◌}
 use native.Mathlib.Omega.{arith}
 use borrow.Author.Rules.{rules}
-use borrow.Author.Tests.{not-true, not-false}
-use lib.Dec.{eqb}
 use Rattle.strings.specs.Number.{number_of}
-use Rattle.words.specs.Calls.{number_in}
-use Rattle.channel.specs.Frame.{data_in}
-use Rattle.channel.specs.Row.{is_present, string_in}
 use Rattle.channel.proofs.Frames.{number_small}
-use Rattle.channel.proofs.SameData.{string_part}
 use Rattle.channel.proofs.placing.fate_in_frame.Goals as goal
 
 -- the string's number is one of a frame's

@@ -3,14 +3,12 @@
 use mathlib.Core.Path.{◌≡◌, sym, ap, subst, ◌∙◌}
 use mathlib.Core.Bool.{Bool, true, false}
 use mathlib.Core.List.{List}
-use mathlib.Core.Logic.{⊎_elim}
 use Prim.Native.Nat.{ℕ, ◌+◌, ◌-◌, ◌*◌, ◌%◌, ◌^◌, ◌≤◌}
 use native.Mathlib.Omega.{arith}
-use borrow.Author.Tests.{not-true, not-false}
 use borrow.Rule.Slice.PartMut.{put_mid}
 use lib.Bits.{bit_or}
 use lib.ListN.{length, replicate, length-replicate}
-use lib.Seq.{paste, length-paste}
+use lib.Seq.{paste}
 use Rattle.strings.specs.Number.{number_of}
 use Rattle.strings.specs.Pick.{pick}
 use Rattle.strings.proofs.Shape.{shaped}
@@ -19,7 +17,6 @@ use Rattle.channel.specs.declared.Placed.TheVariants.{Taken}
 use Rattle.channel.specs.Row.{holds_frame, bytes_by, held}
 use Rattle.channel.specs.Offers.{StoresIn}
 use Rattle.channel.proofs.Storing.{part_long, put_pasted, stores_by}
-use borrow.Author.Rules.{rules}
 use Rattle.channel.proofs.placing.keep.Goals as goal
 use Rattle.channel.proofs.placing.keep.Goals.{then-not-holds_frame, else-not-holds_frame}
 
@@ -29,8 +26,8 @@ among c =
     let a = c.args in
     let by : Bool → List ℕ = λ (t : Bool). pick t a.all.now (replicate 165 0) in
     elim c.if-not-holds_frame.branch [
-      then-not-holds_frame w ↦ w.all-is ∙ w.clear.ensures ∙ ap by (sym (sym c.holds_frame.ensures ∙ w.if-not-holds_frame.true))
-    | else-not-holds_frame w ↦ w.all-is ∙ ap by (sym (sym c.holds_frame.ensures ∙ w.if-not-holds_frame.false))
+      | then-not-holds_frame w ↦ w.all-is ∙ w.clear.ensures ∙ ap by (sym (sym c.holds_frame.ensures ∙ w.if-not-holds_frame.true))
+      | else-not-holds_frame w ↦ w.all-is ∙ ap by (sym (sym c.holds_frame.ensures ∙ w.if-not-holds_frame.false))
     ]
 
 -- they are 165

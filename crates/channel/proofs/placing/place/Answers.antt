@@ -7,8 +7,7 @@ use Rattle.channel.specs.declared.News.TheVariants.{AlreadyHeld}
 use Rattle.channel.specs.declared.Placed.TheVariants.{Taken}
 use Rattle.channel.specs.Row.{Held, held_in}
 use Rattle.channel.specs.Offers.{Places}
-use Rattle.channel.proofs.Settling.{placed_not, placed_here, new_numbered, placed_new}
-use borrow.Author.Rules.{rules}
+use Rattle.channel.proofs.Settling.{placed_not, placed_here, placed_new}
 use Rattle.channel.proofs.placing.place.Goals as goal
 
 -- what is held, and the string

@@ -1,5 +1,4 @@
 -- `placing::same_data` meets its contract: bits 80..9 are the words 80..73, 72..41 and 40..9. Assumes nothing.
-use borrow.Author.Rules.{rules}
 use borrow.Author.Tests.{eq-eqb, ne_eqb}
 use Rattle.strings.specs.Number.{number_of}
 use Rattle.channel.proofs.SameData.{same_data_is}

@@ -1,5 +1,4 @@
 -- `rows::empty_row` meets its contract. Assumes nothing.
-use borrow.Author.Rules.{rules}
 use Rattle.channel.specs.Row.{empty_row}
 use Rattle.channel.proofs.rows.empty_row.Goals as goal
 

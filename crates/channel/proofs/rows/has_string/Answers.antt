@@ -1,5 +1,4 @@
 -- `rows::has_string` meets its contract: m is 1 to 15, so only the bit is asked. Assumes nothing.
-use borrow.Author.Rules.{rules}
 use borrow.Author.Tests.{le-leb}
 use Rattle.channel.specs.Row.{is_present}
 use Rattle.channel.proofs.rows.has_string.Goals as goal

@@ -2,10 +2,9 @@
 use mathlib.Core.Path.{refl, ◌∙◌}
 use Prim.Native.Nat.{◌≤◌}
 use native.Mathlib.Omega.{arith}
-use borrow.Author.Rules.{rules}
 use Rattle.records.specs.declared.kinds.Kind.TheVariants.{Even}
 use Rattle.layout.specs.Layout.{layout}
-use Rattle.layout.proofs.Rows.{beyond, past_words}
+use Rattle.layout.proofs.Rows.{past_words}
 use Rattle.layout.proofs.table.even_string.Goals as goal
 
 pub returns-in-0 : goal.returns-in-0

@@ -1,7 +1,6 @@
 -- `table::word_at` meets its contract: each kind's words, all of them placed (`Rows`). Assumes nothing.
 use Rattle.records.specs.declared.kinds.Kind.TheVariants.{One, Two, Three, Four, Five, Even, Odd, Fourteen}
 use Rattle.layout.proofs.Rows.{told_at}
-use borrow.Author.Rules.{rules}
 use Rattle.layout.proofs.table.word_at.Goals as goal
 
 pub returns-in-One : goal.returns-in-One

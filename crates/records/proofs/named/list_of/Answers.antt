@@ -1,7 +1,6 @@
 -- `named::list_of` meets its contract, arm by arm. Assumes nothing.
 use mathlib.Core.Path.{sym, ap, ◌∙◌}
 use Rattle.records.specs.Records.{list_of}
-use borrow.Author.Rules.{rules}
 use Rattle.records.proofs.named.list_of.Goals as goal
 
 pub returns-in-One : goal.returns-in-One

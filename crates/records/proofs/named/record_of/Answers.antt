@@ -2,7 +2,6 @@
 use mathlib.Core.Path.{ap}
 use Rattle.records.specs.declared.named.Record.TheVariants.{One as One', Two as Two', Three as Three', Four as Four', Five as Five', Even as Even', Odd as Odd', Fourteen as Fourteen'}
 use Rattle.records.specs.Records.{record_of}
-use borrow.Author.Rules.{rules}
 use Rattle.records.proofs.named.record_of.Goals as goal
 
 pub returns-in-One : goal.returns-in-One

@@ -2,7 +2,6 @@
 -- Assumes nothing.
 use Rattle.strings.proofs.Shape.{shaped, shape_told}
 use Rattle.relative.proofs.RelativeCode.{read_no_room, read_no_shape, reads}
-use borrow.Author.Rules.{rules}
 use Rattle.relative.proofs.coding.from_relative.Goals as goal
 
 pub returns-then-out-ne11 : goal.returns-then-out-ne11

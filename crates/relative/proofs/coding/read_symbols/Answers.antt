@@ -2,16 +2,14 @@
 -- the first byte, and the bytes of `out` below k are made. The measure is how many bytes are left.
 -- Assumes nothing.
 use mathlib.Core.Path.{◌≡◌, refl, ap₂, ◌∙◌}
-use mathlib.Core.List.{List}
-use Prim.Native.Nat.{ℕ, ◌+◌, ◌-◌, ◌*◌, ◌%◌, ◌≤◌, ◌<◌}
+use Prim.Native.Nat.{ℕ, ◌+◌, ◌*◌, ◌%◌}
 use native.Mathlib.Omega.{arith}
 use native.Mathlib.Numerals.{add-one}
-use lib.ListN.{length, get_or, length-set}
-use borrow.Author.Rules.{rules}
+use lib.ListN.{get_or, length-set}
 use borrow.Author.Count.{below_none}
 use Rattle.strings.proofs.Value.{Bytes}
 use Rattle.strings.proofs.Shape.{shaped}
-use Rattle.relative.proofs.Symbols.{with_above, led, made, made_at, set_more, all_read}
+use Rattle.relative.proofs.Symbols.{with_above, made, made_at, set_more, all_read}
 use Rattle.relative.proofs.coding.read_symbols.Goals as goal
 
 bytes_ok : (c : goal.After-wide-in-loop-k) → Bytes c.args.s.now

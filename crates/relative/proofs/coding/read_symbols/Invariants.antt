@@ -1,17 +1,10 @@
 -- `coding::read_symbols` meets its contract. The loop's invariant: `before` is the byte sent before the byte at k, the first symbol standing before
 -- the first byte, and the bytes of `out` below k are made. The measure is how many bytes are left.
 -- Assumes nothing.
-use mathlib.Core.Path.{◌≡◌, refl, ap₂, ◌∙◌}
-use mathlib.Core.List.{List}
-use Prim.Native.Nat.{ℕ, ◌+◌, ◌-◌, ◌*◌, ◌%◌, ◌≤◌, ◌<◌}
-use native.Mathlib.Omega.{arith}
-use native.Mathlib.Numerals.{add-one}
-use lib.ListN.{length, get_or, length-set}
-use borrow.Author.Rules.{rules}
-use borrow.Author.Count.{below_none}
-use Rattle.strings.proofs.Value.{Bytes}
-use Rattle.strings.proofs.Shape.{shaped}
-use Rattle.relative.proofs.Symbols.{with_above, led, made, made_at, set_more, all_read}
+use mathlib.Core.Path.{◌≡◌}
+use Prim.Native.Nat.{ℕ, ◌-◌, ◌≤◌, ◌<◌}
+use lib.ListN.{length, get_or}
+use Rattle.relative.proofs.Symbols.{led, made}
 use Rattle.relative.proofs.coding.read_symbols.Given as goal
 
 abbrev pub invariant-loop-k : goal.invariant-loop-k

@@ -2,12 +2,9 @@
 -- is 0. The measure is i.
 -- Assumes nothing.
 use mathlib.Core.Path.{◌≡◌, sym, ap, ◌∙◌}
-use mathlib.Core.Logic.{⊎_elim}
-use Prim.Native.Nat.{ℕ, ◌+◌, ◌≤◌}
+use Prim.Native.Nat.{ℕ, ◌+◌}
 use native.Mathlib.Omega.{arith}
-use lib.ListN.{length}
-use borrow.Author.Rules.{rules}
-use Rattle.strings.specs.Number.{bit_of, number_of, padding_of, flip, bytes_of_string}
+use Rattle.strings.specs.Number.{bit_of, number_of, flip, bytes_of_string}
 use Rattle.strings.proofs.Value.{Bytes, number_lt, bytes_of_string_lem}
 use Rattle.strings.proofs.Shape.{shaped}
 use Rattle.relative.proofs.Symbols.{part_sent, sent_none, sent_all, sends_one, sends_zero}
@@ -28,15 +25,15 @@ loop-i-preserved c =
     let i = c.loop-i.invariant in
     let b : bit_of (part_sent n k) (k + 1) ≡ c.bit.result = ap (λ (x : ℕ). bit_of x (k + 1)) (sym i.1.0) ∙ sym c.bit.ensures in
     elim c.if-bit-eq1.branch [
-      then-bit-eq1 w ↦ rw w.s-is (
+      | then-bit-eq1 w ↦ rw w.s-is (
         (omega arith, w.flip_bit.auto.s ∙ i.0.1),
         (
           w.flip_bit.ensures.0 ∙ ap (λ (x : ℕ). flip x k) i.1.0 ∙ sends_one n k (omega arith) i.0.0 (b ∙ w.if-bit-eq1.true),
           (w.flip_bit.ensures.1 ∙ i.1.1.0, λ j. (w.slice_known-then-bit-eq1-1.given j).fits),
         ),
       )
-    | else-bit-eq1 w ↦ rw w.s-is
-      ((omega arith, i.0.1), (i.1.0 ∙ sends_zero n k (omega arith) i.0.0 (λ q. w.if-bit-eq1.false (sym b ∙ q)), i.1.1))
+      | else-bit-eq1 w ↦ rw w.s-is
+          ((omega arith, i.0.1), (i.1.0 ∙ sends_zero n k (omega arith) i.0.0 (λ q. w.if-bit-eq1.false (sym b ∙ q)), i.1.1))
     ]
 
 pub returns : goal.returns

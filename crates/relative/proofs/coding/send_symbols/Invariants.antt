@@ -1,16 +1,12 @@
 -- `coding::send_symbols` meets its contract. The loop's invariant: what stands above bit i is sent, what stands below is as it came, and the padding
 -- is 0. The measure is i.
 -- Assumes nothing.
-use mathlib.Core.Path.{◌≡◌, sym, ap, ◌∙◌}
-use mathlib.Core.Logic.{⊎_elim}
-use Prim.Native.Nat.{ℕ, ◌+◌, ◌≤◌}
-use native.Mathlib.Omega.{arith}
+use mathlib.Core.Path.{◌≡◌}
+use Prim.Native.Nat.{◌≤◌}
 use lib.ListN.{length}
-use borrow.Author.Rules.{rules}
-use Rattle.strings.specs.Number.{bit_of, number_of, padding_of, flip, bytes_of_string}
-use Rattle.strings.proofs.Value.{Bytes, number_lt, bytes_of_string_lem}
-use Rattle.strings.proofs.Shape.{shaped}
-use Rattle.relative.proofs.Symbols.{part_sent, sent_none, sent_all, sends_one, sends_zero}
+use Rattle.strings.specs.Number.{number_of, padding_of}
+use Rattle.strings.proofs.Value.{Bytes}
+use Rattle.relative.proofs.Symbols.{part_sent}
 use Rattle.relative.proofs.coding.send_symbols.Given as goal
 
 abbrev pub invariant-loop-i : goal.invariant-loop-i

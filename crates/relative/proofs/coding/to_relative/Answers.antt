@@ -1,13 +1,8 @@
 -- `coding::to_relative` meets its contract, return by return.
 -- Assumes nothing.
-use mathlib.Core.Path.{◌≡◌, sym, ap, ◌∙◌}
+use mathlib.Core.Path.{◌≡◌, sym, ◌∙◌}
 use mathlib.Core.Bool.{false}
-use mathlib.Core.List.{List, ◌++◌}
-use Prim.Native.Nat.{ℕ}
-use native.Mathlib.Omega.{arith}
-use lib.ListN.{length, take, drop}
 use Rattle.strings.specs.Number.{misshapen}
-use Rattle.strings.proofs.Value.{copied}
 use Rattle.strings.proofs.Shape.{shaped, shape_told}
 use Rattle.relative.proofs.RelativeCode.{write_no_room, write_no_shape, last_refuses, last_takes}
 use borrow.Author.Rules.{rules}

@@ -1,7 +1,6 @@
 -- `scaling::power` meets its contract: the pattern's value is 2 ^ -unit. Assumes nothing.
 use Prim.Native.Nat.{ℕ}
 use native.Mathlib.Omega.{arith}
-use borrow.Author.Rules.{rules}
 use Rattle.scaled.specs.Scaled.{scaled_of}
 use Rattle.scaled.proofs.Pattern.{pattern_number, pattern_is}
 use Rattle.scaled.proofs.scaling.power.Goals as goal

@@ -1,6 +1,5 @@
 -- `scaling::scaled` meets its contract: a 32-bit integer has fewer than 53 digits. Assumes nothing.
 use Prim.Native.Nat.{ℕ}
-use borrow.Author.Rules.{rules}
 use native.Mathlib.Omega.{arith}
 use lib.IntN.{pos}
 use lib.Signed.{nat_abs-le}

@@ -1,5 +1,4 @@
 -- `table::signed_word` meets its contract: its table is that of the definition. Assumes nothing.
-use borrow.Author.Rules.{rules}
 use Rattle.scaled.specs.Units.{units}
 use Rattle.scaled.proofs.Listed.{listed_at}
 use Rattle.scaled.proofs.table.signed_word.Goals as goal

@@ -1,10 +1,9 @@
 -- `showing::bring` meets its contract: after j rounds the first j pairs are brought (up_to), each joined in where it stands
 -- (shown-in-place) if it rises above what stands there, which is a change (changedTo); and five are all (five-brought,
 -- five-changed). Assumes nothing.
-use mathlib.Core.Path.{◌≡◌, refl, sym, ap₂, ◌∙◌}
+use mathlib.Core.Path.{◌≡◌, sym, ap₂, ◌∙◌}
 use mathlib.Core.Bool.{Bool}
-use mathlib.Core.Logic.{⊎_elim}
-use Prim.Native.Nat.{ℕ, ◌+◌, ◌-◌, ◌*◌, ◌≤◌}
+use Prim.Native.Nat.{ℕ, ◌+◌, ◌*◌}
 use native.Mathlib.Omega.{arith}
 use native.Mathlib.Numerals.{add-one}
 use borrow.Author.Rules.{rules}
@@ -38,13 +37,13 @@ loop-j-preserved c =
       (
         rw add-one
             (elim c.if-rises.branch [
-              then-rises w ↦ w.b-is ∙ rw (w.join-new.ensures, c.place_of-at.ensures.0, c.shown_at-s.ensures, l.invariant.1.0) (shown_in_place b s)
-            | else-rises w ↦ w.b-is ∙ l.invariant.1.0 ∙ shown_below b s (sym e ∙ w.if-rises.false)
+              | then-rises w ↦ w.b-is ∙ rw (w.join-new.ensures, c.place_of-at.ensures.0, c.shown_at-s.ensures, l.invariant.1.0) (shown_in_place b s)
+              | else-rises w ↦ w.b-is ∙ l.invariant.1.0 ∙ shown_below b s (sym e ∙ w.if-rises.false)
             ]),
         rw add-one
             (elim c.if-rises.branch [
-              then-rises w ↦ w.changed-is ∙ turn_changed (changed_to a.b (pair_in a.row) l.j) (rises_in b s) (sym e ∙ w.if-rises.true)
-            | else-rises w ↦ w.changed-is ∙ l.invariant.1.1 ∙ turn_kept (changed_to a.b (pair_in a.row) l.j) (rises_in b s) (sym e ∙ w.if-rises.false)
+              | then-rises w ↦ w.changed-is ∙ turn_changed (changed_to a.b (pair_in a.row) l.j) (rises_in b s) (sym e ∙ w.if-rises.true)
+              | else-rises w ↦ w.changed-is ∙ l.invariant.1.1 ∙ turn_kept (changed_to a.b (pair_in a.row) l.j) (rises_in b s) (sym e ∙ w.if-rises.false)
             ]),
       ),
     )

@@ -1,21 +1,13 @@
 -- `showing::bring` meets its contract: after j rounds the first j pairs are brought (up_to), each joined in where it stands
 -- (shown-in-place) if it rises above what stands there, which is a change (changedTo); and five are all (five-brought,
 -- five-changed). Assumes nothing.
-use mathlib.Core.Path.{◌≡◌, refl, sym, ap₂, ◌∙◌}
-use mathlib.Core.Bool.{Bool}
-use mathlib.Core.Logic.{⊎_elim}
+use mathlib.Core.Path.{◌≡◌}
 use Prim.Native.Nat.{ℕ, ◌+◌, ◌-◌, ◌*◌, ◌≤◌}
-use native.Mathlib.Omega.{arith}
-use native.Mathlib.Numerals.{add-one}
-use borrow.Author.Rules.{rules}
-use Rattle.book.specs.declared.Book.{Book}
 use Rattle.book.specs.declared.Shown.{Shown}
-use Rattle.book.proofs.Joins.{shown_in_place, shown_below}
 use Rattle.channel.specs.declared.Row.{Row}
 use Rattle.channel.specs.Row.{frame_of}
-use Rattle.shows.specs.Shows.{shown_at, rises_in, all_brought}
-use Rattle.shows.proofs.Shows.{in_book}
-use Rattle.shows.proofs.Turns.{up_to, changed_to, five_brought, five_changed, turn_changed, turn_kept}
+use Rattle.shows.specs.Shows.{shown_at}
+use Rattle.shows.proofs.Turns.{up_to, changed_to}
 use Rattle.shows.proofs.showing.bring.Given as goal
 
 -- what is shown in round j

@@ -7,7 +7,6 @@ use Rattle.channel.specs.Row.{framed}
 use Rattle.channel.specs.Offers.{is_stored}
 use Rattle.shows.specs.Shows.{shows_of}
 use Rattle.shows.proofs.Shows.{newly_is}
-use borrow.Author.Rules.{rules}
 use Rattle.shows.proofs.stepping.newly_shown.Goals as goal
 
 pub returns : goal.returns

@@ -1,6 +1,5 @@
 -- `entering::enter` meets its contract. Assumes nothing.
 use mathlib.Core.Path.{refl, sym, ◌∙◌}
-use borrow.Author.Rules.{rules}
 use Rattle.shows.proofs.Shows.{is_so, is_not}
 use Rattle.station.proofs.Served.{enters_no_card, enters_no_channel, enters_not_owner, enters_open}
 use Rattle.station.proofs.entering.enter.Goals as goal

@@ -1,6 +1,5 @@
 -- `entering::gate_number` meets its contract. Assumes nothing.
-use borrow.Author.Rules.{rules}
-use Rattle.station.proofs.Served.{opened, shut, number_open, number_shut}
+use Rattle.station.proofs.Served.{opened, number_open}
 use Rattle.station.proofs.entering.gate_number.Goals as goal
 
 pub returns-in-Open : goal.returns-in-Open

@@ -1,8 +1,7 @@
 -- `offering::bring_if` meets its contract. Assumes nothing.
-use mathlib.Core.Path.{refl, ap}
+use mathlib.Core.Path.{ap}
 use Rattle.shows.specs.declared.Brought.{Brought}
 use Rattle.shows.specs.Shows.{all_brought}
-use borrow.Author.Rules.{rules}
 use Rattle.station.proofs.offering.bring_if.Goals as goal
 
 pub returns-then-is_stored : goal.returns-then-is_stored

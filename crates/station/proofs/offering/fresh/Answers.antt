@@ -5,7 +5,6 @@ use Rattle.book.specs.declared.Book.{Book}
 use Rattle.summary.specs.Walk.{none_filled}
 use Rattle.channel.specs.declared.Row.{Row}
 use Rattle.station.specs.Station.{channels, fresh_station}
-use borrow.Author.Rules.{rules}
 use Rattle.station.proofs.offering.fresh.Goals as goal
 
 pub returns : goal.returns

@@ -1,9 +1,7 @@
 -- `offering::offer` meets its contract: the row taken out, offered the string and put back, the book and its summary. Assumes nothing.
-use native.Mathlib.Omega.{arith}
 use Rattle.station.specs.Station.{no_row}
 use Rattle.station.proofs.Served.{opened, shut}
 use Rattle.station.proofs.AfterOffer.{offer_shut, after_offer_lem, offer_open}
-use borrow.Author.Rules.{rules}
 use Rattle.station.proofs.offering.offer.Goals as goal
 
 pub returns-in-Shut : goal.returns-in-Shut

@@ -1,6 +1,4 @@
 -- `offering::reset` meets its contract. Assumes nothing.
-use native.Mathlib.Omega.{arith}
-use borrow.Author.Rules.{rules}
 use Rattle.station.proofs.Served.{opened, shut}
 use Rattle.station.proofs.AfterReset.{reset_shut, reset_open}
 use Rattle.station.proofs.offering.reset.Goals as goal

@@ -1,8 +1,6 @@
 -- `queries::health_by` meets its contract: each return rewrites with the tests that led there; C is etop's top bit (status-is). Assumes nothing.
-use mathlib.Core.Path.{◌≡◌}
 use native.Mathlib.Omega.{arith}
 use borrow.Author.Tests.{le-leb, lt-leb, eq-eqb, ne_eqb}
-use lib.ListN.{length}
 use borrow.Author.Rules.{rules}
 use Rattle.book.specs.Book.{slots}
 use Rattle.shows.proofs.Shows.{is_so, is_not}

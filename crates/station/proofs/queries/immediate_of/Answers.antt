@@ -1,10 +1,8 @@
 -- `queries::immediate_of` meets its contract: by where the call entered, and whether there is a record. Assumes nothing.
-use native.Mathlib.Omega.{arith}
-use borrow.Author.Rules.{rules}
 use Rattle.shows.proofs.Shows.{is_so, is_not}
 use Rattle.station.specs.Station.{no_row}
-use Rattle.station.proofs.Served.{opened, shut}
-use Rattle.station.proofs.Asked.{record_shut, record_missing, record_there}
+use Rattle.station.proofs.Served.{opened}
+use Rattle.station.proofs.Asked.{record_missing, record_there}
 use Rattle.station.proofs.queries.immediate_of.Goals as goal
 
 pub returns-then-not-has_record : goal.returns-then-not-has_record

@@ -1,5 +1,4 @@
 -- `queries::summary_of` meets its contract. Assumes nothing.
-use borrow.Author.Rules.{rules}
 use Rattle.shows.proofs.Shows.{is_so, is_not}
 use Rattle.station.specs.Queries.{FindsSummary}
 use Rattle.station.proofs.queries.summary_of.Goals as goal

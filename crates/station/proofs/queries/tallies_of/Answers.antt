@@ -1,6 +1,4 @@
 -- `queries::tallies_of` meets its contract: by where the call entered. Assumes nothing.
-use native.Mathlib.Omega.{arith}
-use borrow.Author.Rules.{rules}
 use Rattle.station.specs.Station.{no_row}
 use Rattle.station.proofs.Served.{opened, shut}
 use Rattle.station.proofs.Asked.{tallies_shut, tallies_there}

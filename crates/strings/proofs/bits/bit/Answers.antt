@@ -1,6 +1,5 @@
 -- `bits::bit` meets its contract. Assumes nothing.
 use mathlib.Core.Path.{sym}
-use borrow.Author.Rules.{rules}
 use Rattle.strings.proofs.Value.{bit_at}
 use Rattle.strings.proofs.bits.bit.Goals as goal
 

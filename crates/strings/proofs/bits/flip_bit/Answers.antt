@@ -4,7 +4,6 @@ use Prim.Native.Nat.{ℕ, ◌+◌, ◌-◌, ◌/◌, ◌%◌}
 use native.Mathlib.Nat.{mod-lt, zero-lt-suc}
 use lib.Bits.{bit_xor}
 use lib.ListN.{get_or, set}
-use borrow.Author.Rules.{rules}
 use Rattle.strings.specs.Number.{number_of, padding_of}
 use Rattle.strings.proofs.Value.{Bytes, turned_number, turned_padding, shl8}
 use Rattle.strings.proofs.bits.flip_bit.Goals as goal

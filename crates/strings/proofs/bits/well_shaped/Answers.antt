@@ -8,7 +8,6 @@ use lib.ListN.{length, get_or}
 use borrow.Author.Tests.{eq-eqb, ne_eqb}
 use Rattle.strings.specs.Number.{misshapen}
 use Rattle.strings.proofs.Value.{padding_at}
-use borrow.Author.Rules.{rules}
 use Rattle.strings.proofs.bits.well_shaped.Goals as goal
 
 pub returns-then-s-ne11 : goal.returns-then-s-ne11

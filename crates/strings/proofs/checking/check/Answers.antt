@@ -1,7 +1,6 @@
 -- `checking::check` meets its contract, return by return. Assumes nothing.
 use mathlib.Core.Path.{◌≡◌, ◌∙◌, sym}
 use mathlib.Core.Bool.{false}
-use borrow.Author.Rules.{rules}
 use Rattle.strings.specs.Number.{misshapen}
 use Rattle.strings.proofs.Shape.{shaped, shape_told}
 use Rattle.strings.proofs.CheckAnswers.{check_no_room, check_no_shape, check_damaged}

@@ -1,7 +1,6 @@
 -- `checking::idle_after` meets its contract. Assumes nothing.
 use mathlib.Core.Path.{sym, subst}
 use native.Mathlib.Omega.{arith}
-use borrow.Author.Rules.{rules}
 use borrow.Author.Tests.{eq-eqb, ne_eqb}
 use Rattle.strings.specs.Number.{number_of}
 use Rattle.strings.specs.Hamming.{NamesBit}

@@ -1,16 +1,12 @@
 -- `checking::take` meets its contract, return by return. Assumes nothing.
-use mathlib.Core.Path.{◌≡◌, ◌∙◌, sym, ap}
-use mathlib.Core.Bool.{false}
+use mathlib.Core.Path.{◌∙◌, sym, ap}
 use mathlib.Core.List.{List}
 use Prim.Native.Nat.{ℕ}
-use native.Mathlib.Omega.{arith}
-use borrow.Author.Rules.{rules}
 use borrow.Author.Tests.{eq-eqb, ne_eqb}
-use lib.ListN.{length}
 use Rattle.strings.specs.declared.hamming.Ruling.TheVariants.{Sound}
-use Rattle.strings.specs.Number.{number_of, padding_of, misshapen}
-use Rattle.strings.specs.Hamming.{ruling, mended_by}
-use Rattle.strings.proofs.Value.{copied, string_is}
+use Rattle.strings.specs.Number.{number_of, padding_of}
+use Rattle.strings.specs.Hamming.{mended_by}
+use Rattle.strings.proofs.Value.{string_is}
 use Rattle.strings.proofs.Shape.{shaped}
 use Rattle.strings.proofs.Judge.{names_bit}
 use Rattle.strings.proofs.CheckAnswers.{check_idle, check_taken}

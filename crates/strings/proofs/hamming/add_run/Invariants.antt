@@ -1,13 +1,8 @@
 -- `hamming::add_run` meets its contract: before bit i the sums are those of the bits below it, and `bits` is the rest of the run. Assumes nothing.
-use mathlib.Core.Path.{◌≡◌, sym, ap, ◌∙◌}
-use Prim.Native.Nat.{ℕ, ◌+◌, ◌-◌, ◌/◌, ◌%◌, ◌^◌, ◌≤◌}
-use native.Mathlib.Omega.{arith}
-use borrow.Author.Rules.{rules}
-use lib.Pow.{shr-shr}
-use Rattle.strings.specs.Number.{number_of, bit_of, word_of}
-use Rattle.strings.specs.Hamming.{position}
-use Rattle.strings.proofs.WordOf.{bit_in_word}
-use Rattle.strings.proofs.Runs.{sums_of, added}
+use mathlib.Core.Path.{◌≡◌}
+use Prim.Native.Nat.{◌+◌, ◌-◌, ◌/◌, ◌%◌, ◌^◌, ◌≤◌}
+use Rattle.strings.specs.Number.{number_of, word_of}
+use Rattle.strings.proofs.Runs.{sums_of}
 use Rattle.strings.proofs.hamming.add_run.Given as goal
 
 abbrev pub invariant-loop-i : goal.invariant-loop-i

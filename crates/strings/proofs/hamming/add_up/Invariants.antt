@@ -1,17 +1,9 @@
 -- `hamming::add_up` meets its contract: before check bit k the sums are those of the bits below it, and so before bits 8 and 9 and before each run.
 -- Assumes nothing.
-use mathlib.Core.Path.{◌≡◌, sym, ap, ◌∙◌}
-use Prim.Native.Nat.{ℕ, ◌+◌, ◌-◌, ◌*◌, ◌/◌, ◌%◌, ◌^◌, ◌≤◌}
-use native.Mathlib.Omega.{arith}
-use borrow.Author.Rules.{rules}
-use lib.Bits.{bit_xor}
-use lib.Dec.{lit<}
-use Rattle.strings.specs.Number.{number_of, bit_of}
-use Rattle.strings.specs.Hamming.{position}
-use Rattle.strings.proofs.WordOf.{bit_in_word}
-use Rattle.strings.proofs.Value.{number_lt}
-use Rattle.strings.proofs.Sums.{position_lt, sum_all_lt}
-use Rattle.strings.proofs.Runs.{sums_of, parted, added, none_yet, whole, check_at, position_8, position_9, in_run}
+use mathlib.Core.Path.{◌≡◌}
+use Prim.Native.Nat.{◌-◌, ◌%◌, ◌^◌, ◌≤◌}
+use Rattle.strings.specs.Number.{number_of}
+use Rattle.strings.proofs.Runs.{sums_of}
 use Rattle.strings.proofs.hamming.add_up.Given as goal
 
 abbrev pub invariant-loop-k : goal.invariant-loop-k

@@ -1,7 +1,6 @@
 -- `hamming::examine` meets its contract. Assumes nothing.
 use mathlib.Core.Path.{ap₂, ◌∙◌}
 use native.Mathlib.Omega.{arith}
-use borrow.Author.Rules.{rules}
 use Rattle.strings.specs.Number.{number_of}
 use Rattle.strings.specs.Hamming.{judge, ruling}
 use Rattle.strings.proofs.Sums.{syndrome_lt, sum_all_lt}

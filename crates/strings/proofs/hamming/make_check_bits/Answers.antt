@@ -1,13 +1,11 @@
 -- `hamming::make_check_bits` meets its contract: before check bit k those below it are made, and `all` is the sum of all bits. Assumes nothing.
 use mathlib.Core.Path.{◌≡◌, sym, ap, ◌∙◌}
-use mathlib.Core.Logic.{⊎_elim}
 use Prim.Native.Nat.{ℕ, ◌-◌, ◌^◌, ◌≤◌, ◌<◌}
 use native.Mathlib.Omega.{arith}
-use lib.ListN.{length}
 use Rattle.strings.specs.Number.{bit_of, number_of, flip, bytes_of_string}
 use Rattle.strings.specs.Hamming.{syndrome, sum_all, sums_made}
 use Rattle.strings.proofs.Digits.{bit_lt}
-use Rattle.strings.proofs.Value.{number_lt, string_is, string_length, flipped}
+use Rattle.strings.proofs.Value.{number_lt, string_is, flipped}
 use Rattle.strings.proofs.Sums.{sum_all_lt, flip_all}
 use Rattle.strings.proofs.Encode.{made_to, made_to_lt, made_none, made_all, made_clear, made_set, eighth_set, eighth_clear}
 use Rattle.strings.proofs.hamming.make_check_bits.Goals as goal

@@ -7,7 +7,6 @@ use Rattle.records.specs.declared.named.String4.{String4}
 use Rattle.records.specs.declared.named.ImmediateWords.{ImmediateWords}
 use Rattle.records.specs.Records.{string1_of, string2_of, string3_of, string4_of}
 use Rattle.words.specs.Immediate.{immediate_of}
-use borrow.Author.Rules.{rules}
 use Rattle.words.proofs.reading.immediate_words.Goals as goal
 
 abbrev together : String1 → String2 → String3 → String4 → ImmediateWords

@@ -12,7 +12,6 @@ use Rattle.words.specs.Values.{values_of, first_bad}
 use Rattle.records.specs.Records.{record_of}
 use Rattle.words.specs.Calls.{number_in}
 use Rattle.words.proofs.ReadAnswers.{reads_no, reads_on, reads_yes}
-use borrow.Author.Rules.{rules}
 use Rattle.words.proofs.reading.read_whole.Goals as goal
 
 -- ---- what the calls say, of the string's number

@@ -1,7 +1,6 @@
 -- `reading::read_words` meets its contract: "2, 3, 4, 5, 11, 10", the first three by the check (`ReadAnswers`). Assumes nothing.
 use mathlib.Core.Path.{refl}
 use Rattle.words.proofs.ReadAnswers.{refused_read, taken_read}
-use borrow.Author.Rules.{rules}
 use Rattle.words.proofs.reading.read_words.Goals as goal
 
 pub returns-in-Refused : goal.returns-in-Refused

@@ -3,7 +3,6 @@ use mathlib.Core.Path.{sym}
 use native.Mathlib.Omega.{arith}
 use Rattle.strings.specs.Number.{number_of, word_of}
 use Rattle.strings.proofs.Value.{byte_at}
-use borrow.Author.Rules.{rules}
 use Rattle.words.proofs.values.number_in.Goals as goal
 
 pub returns : goal.returns

@@ -1,15 +1,9 @@
 -- `values::value_of` meets its contract: its cases are those of `value_as`. Assumes nothing.
-use mathlib.Core.Path.{◌∙◌, sym}
-use Prim.Native.Nat.{◌+◌, ◌-◌, ◌^◌, ◌<◌}
+use Prim.Native.Nat.{◌+◌, ◌-◌}
 use native.Mathlib.Omega.{arith}
 use native.Mathlib.Nat.{lt_of_lt_of_le}
 use lib.Pow.{pow_mono}
-use mir.Syntax.{w32}
-use mir.Val.{SFits}
-use mir.Facts.{to_z-of_z, to_z_pos}
-use Rattle.words.proofs.Forms.{bare, not_signed}
 use Rattle.words.proofs.Sign.{one_shifted_32, power_small, two_halves}
-use borrow.Author.Rules.{rules}
 use Rattle.words.proofs.values.value_of.Goals as goal
 
 pub signed_value-requires : goal.signed_value-requires

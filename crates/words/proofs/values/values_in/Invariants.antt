@@ -1,19 +1,10 @@
 -- `values::values_in` meets its contract: before place j, the values of the places below it are read. Assumes nothing.
-use mathlib.Core.Path.{◌≡◌, refl, sym, ap, ◌∙◌}
-use Prim.Native.Nat.{◌-◌, ◌≤◌, ◌<◌}
-use native.Mathlib.Omega.{arith}
-use borrow.Author.Rules.{rules}
-use lib.ListN.{length, take, length-set}
-use lib.Seq.{take_all}
-use mir.Syntax.{w32}
-use mir.Val.{SFits, to_z, of_z}
-use mir.Facts.{to_z-of_z}
-use Rattle.strings.specs.Number.{number_of, word_of}
+use mathlib.Core.Path.{◌≡◌}
+use Prim.Native.Nat.{◌-◌, ◌≤◌}
+use lib.ListN.{length, take}
+use Rattle.strings.specs.Number.{number_of}
 use Rattle.layout.specs.Layout.{layout}
-use Rattle.words.specs.Values.{value_in, values_of}
-use Rattle.layout.proofs.Rows.{layout_long}
-use Rattle.words.proofs.Loops.{values_long, values_step}
-use Rattle.words.proofs.WordBits.{word_lt}
+use Rattle.words.specs.Values.{values_of}
 use Rattle.words.proofs.values.values_in.Given as goal
 
 abbrev pub invariant-loop-j : goal.invariant-loop-j

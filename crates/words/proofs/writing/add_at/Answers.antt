@@ -1,8 +1,7 @@
 -- `writing::add_at` meets its contract: the sum stands in the bytes from i on and in the carry (`Carrying`). Assumes nothing.
 use mathlib.Core.Path.{◌≡◌}
 use native.Mathlib.Omega.{arith}
-use borrow.Author.Rules.{rules}
-use Rattle.words.proofs.Carrying.{Carrying, carry_start, carry_step, carry_none, carry_end}
+use Rattle.words.proofs.Carrying.{carry_start, carry_step, carry_none, carry_end}
 use Rattle.words.proofs.writing.add_at.Goals as goal
 
 pub loop-i-init : goal.loop-i-init

@@ -7,7 +7,6 @@ use Rattle.strings.specs.Number.{value_of, bytes_of, bytes_of_string}
 use Rattle.layout.specs.Layout.{layout}
 use Rattle.words.specs.Values.{data_of}
 use Rattle.words.proofs.Carrying.{bytes_add}
-use borrow.Author.Rules.{rules}
 use Rattle.words.proofs.writing.assemble.Goals as goal
 
 pub returns : goal.returns

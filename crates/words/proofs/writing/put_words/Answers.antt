@@ -1,7 +1,7 @@
 -- `writing::put_words` meets its contract: before place j, the words of the places from j on are still to be added. Assumes nothing.
-use mathlib.Core.Path.{◌≡◌, refl, sym, ap, ap₂, ◌∙◌}
+use mathlib.Core.Path.{◌≡◌, sym, ap, ap₂, ◌∙◌}
 use mathlib.Core.List.{List}
-use Prim.Native.Nat.{ℕ, ◌+◌, ◌-◌, ◌*◌, ◌^◌, ◌≤◌}
+use Prim.Native.Nat.{ℕ, ◌+◌, ◌*◌, ◌^◌, ◌≤◌}
 use native.Mathlib.Nat.{add_assoc, add-zero}
 use native.Mathlib.Omega.{arith}
 use borrow.Author.Rules.{rules}
@@ -11,7 +11,7 @@ use mir.Syntax.{w32}
 use mir.Val.{SFits}
 use mir.Facts.{to_z-of_z}
 use Rattle.strings.specs.Number.{value_of, bytes_of}
-use Rattle.strings.proofs.Value.{Bytes, length_bytes, bytes_value}
+use Rattle.strings.proofs.Value.{length_bytes, bytes_value}
 use Rattle.layout.specs.declared.table.Word.{Word}
 use Rattle.layout.specs.Layout.{layout}
 use Rattle.words.specs.Values.{code_in, data_of}

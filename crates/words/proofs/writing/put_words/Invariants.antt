@@ -1,23 +1,11 @@
 -- `writing::put_words` meets its contract: before place j, the words of the places from j on are still to be added. Assumes nothing.
-use mathlib.Core.Path.{◌≡◌, refl, sym, ap, ap₂, ◌∙◌}
-use mathlib.Core.List.{List}
-use Prim.Native.Nat.{ℕ, ◌+◌, ◌-◌, ◌*◌, ◌^◌, ◌≤◌}
-use native.Mathlib.Nat.{add_assoc, add-zero}
-use native.Mathlib.Omega.{arith}
-use borrow.Author.Rules.{rules}
-use lib.IntN.{ℤ, pos}
-use lib.ListN.{length, get_or, drop, drop_of_length-le}
-use mir.Syntax.{w32}
-use mir.Val.{SFits}
-use mir.Facts.{to_z-of_z}
+use mathlib.Core.Path.{◌≡◌}
+use Prim.Native.Nat.{◌+◌, ◌-◌, ◌*◌, ◌≤◌}
+use lib.ListN.{length, drop}
 use Rattle.strings.specs.Number.{value_of, bytes_of}
-use Rattle.strings.proofs.Value.{Bytes, length_bytes, bytes_value}
-use Rattle.layout.specs.declared.table.Word.{Word}
+use Rattle.strings.proofs.Value.{Bytes}
 use Rattle.layout.specs.Layout.{layout}
-use Rattle.words.specs.Values.{code_in, data_of}
-use Rattle.layout.proofs.Rows.{layout_long}
-use Rattle.words.proofs.Loops.{data_step}
-use Rattle.words.proofs.Carrying.{bytes_are, bytes_add}
+use Rattle.words.specs.Values.{data_of}
 use Rattle.words.proofs.writing.put_words.Given as goal
 
 abbrev pub invariant-loop-j : goal.invariant-loop-j

@@ -5,11 +5,10 @@ use mathlib.Core.List.{List}
 use Prim.Native.Nat.{ℕ, ◌+◌, ◌*◌, ◌^◌, ◌<◌}
 use lib.IntN.{ℤ}
 use lib.ListN.{length}
-use borrow.Author.Tests.{not-true, not-false}
 use Rattle.strings.specs.declared.Written.TheVariants.{Done}
 use Rattle.strings.specs.Number.{number_of, padding_of, bytes_of_string}
 use Rattle.strings.specs.Hamming.{encode}
-use Rattle.strings.proofs.Value.{string_length, string_number_lem, string_padding, copied}
+use Rattle.strings.proofs.Value.{string_length, string_number_lem, string_padding}
 use Rattle.records.specs.declared.kinds.Kind.{Kind}
 use Rattle.layout.specs.Layout.{layout, of_kind}
 use Rattle.words.specs.Values.{first_bad, data_of}
@@ -17,7 +16,6 @@ use Rattle.records.specs.Records.{kind_of, list_of}
 use Rattle.words.specs.Calls.{Writes, string_of}
 use Rattle.words.proofs.RecordLists.{string_lt}
 use Rattle.words.proofs.WriteAnswers.{write_no_room, write_no_place, write_no_range, write_done}
-use borrow.Author.Rules.{rules}
 use Rattle.words.proofs.writing.write_words.Goals as goal
 
 kinded : (c : goal.Then-not-is_of_kind) → let a = c.args in c.is_of_kind.result ≡ of_kind (kind_of a.r) a.m
