@@ -59,8 +59,9 @@ module _ (st : Station) (card c : ℕ) (out : List ℕ) where
   text = text_at st c
 
   pub navigation_shut : (z : ℕ) → z ≡ first_of (gate_tests card c) → 0 < z → TellsNavigation st card c out out z
-  navigation_shut z e l =
-      let p = shut_out card c z e l in
+  navigation_shut z e t =
+      let p = shut_out card c z e t in
+      let l : 0 < z = t in
       let alone : z ≡ packed (z ∷ []) = omega arith in
       let first : first_of (gate_tests card c ++ rest) ≡ z = first_stops (gate_tests card c) rest z e l in
       let some : eqb (first_of (gate_tests card c ++ rest)) 0 ≡ false = ap (λ (k : ℕ). eqb k 0) first ∙ ne_eqb z 0 (λ q. omega (arith, q, l)) in
