@@ -3,7 +3,7 @@
 #![tactic(auto)]
 
 mod printing;
-mod records;
+mod record_lines;
 mod stream;
 
 use station::Station;

@@ -4,7 +4,7 @@ ghost use Rattle.std.specs.Prelude.{◌≡◌, ◌+◌, ◌*◌, ◌/◌, ◌≤
 ghost use Rattle.digits.specs.Text.{Within, Puts};
 ghost use Rattle.lines.specs.Text.{numbers_of, line_digits, line_bytes, line_text, left_over, Prints};
 
-use crate::records::list_record;
+use crate::record_lines::list_record;
 use crate::{Line, Printed};
 use digits::{put, put_number, put_numbers};
 use station::Station;

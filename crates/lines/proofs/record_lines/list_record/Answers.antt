@@ -1,6 +1,6 @@
--- `records::list_record` meets its contract: what the offer answers, and what is seen of the string (`Tells`). Assumes nothing.
+-- `record_lines::list_record` meets its contract: what the offer answers, and what is seen of the string (`Tells`). Assumes nothing.
 use Rattle.lines.proofs.Tells.{lists_by}
-use Rattle.lines.proofs.records.list_record.Goals as goal
+use Rattle.lines.proofs.record_lines.list_record.Goals as goal
 
 pub returns : goal.returns
 returns c =
