@@ -149,7 +149,7 @@ typedef char spineyarrow_row_tallies_lies[offsetof(struct spineyarrow_row, talli
 typedef char spineyarrow_row_size[sizeof(struct spineyarrow_row) == 280 ? 1 : -1];
 
 /* An entry: its day, the even string's bits 80..9 (etop the eight highest, even the rest) and the
-   odd string's bits 80..10 (otop the seven highest, odd the rest). Day 0 is no entry. */
+   odd string's bits 80..10 (otop the seven highest, odd the rest). Day 0 is no entry, for C too. */
 struct spineyarrow_entry {
     uint64_t even;
     uint64_t odd;
@@ -171,7 +171,8 @@ struct spineyarrow_book {
 typedef char spineyarrow_book_entries_lies[offsetof(struct spineyarrow_book, entries) == 0 ? 1 : -1];
 typedef char spineyarrow_book_size[sizeof(struct spineyarrow_book) == 576 ? 1 : -1];
 
-/* How many lines hold an entry, the oldest of their days and the newest: 0, 0, 0 where none does. */
+/* How many lines hold an entry, the oldest of their days and the newest: 0, 0, 0 where none does, for
+   C too. */
 struct spineyarrow_summary {
     uint64_t count;
     uint16_t oldest;

@@ -25,8 +25,8 @@ function worth(s,    n, list, i, product) {
 
 # OffBeat is OFF_BEAT
 function in_capitals(s) { gsub(/[A-Z]/, "_&", s); return toupper(substr(s, 2)) }
-/^        (Refusal|Damage|Why|Answer)::[A-Za-z(_)]+ => [0-9]+,/ {
-    word = $1; sub(/^.*::/, "", word); sub(/\(.*/, "", word)
+/^        (Err\()?(Refusal|Damage|Why|Unwritten)::[A-Za-z(_)]+ => [0-9]+,/ {
+    word = $1; sub(/^.*::/, "", word); sub(/[()].*/, "", word)
     no[$3 + 0] = ($1 ~ /^Damage/ ? "DAMAGED_" : "") in_capitals(word)
     next
 }

@@ -10,6 +10,8 @@ use lib.Dec.{eqb, leb}
 use lib.ListN.{length, get_or, drop}
 use borrow.Author.Tests.{eqb-true, eqb-false}
 use Rattle.strings.specs.Pick.{pick}
+use Rattle.fields.specs.declared.Why.{Why}
+use Rattle.std.specs.Prelude.{Result, ⊤}
 use Rattle.strings.specs.Numbers.{test_at, answer_of}
 use Rattle.fields.specs.declared.Why.TheVariants.{Tag, Length, Cut}
 use Rattle.fields.specs.Sixteen.{channel_in, epoch_in, symbols_in}
@@ -23,7 +25,6 @@ use Rattle.station.specs.declared.Station.{Station}
 use Rattle.blocks.specs.declared.Told.{Told}
 use Rattle.blocks.specs.declared.Told.TheVariants.{End, Offered, Emptied, Remark, Refused}
 use Rattle.blocks.specs.declared.Taken.{Taken}
-use Rattle.blocks.specs.declared.Ended.{Ended}
 use Rattle.blocks.specs.Taking.{answer_in, after_calls, answers_to, told_paper, answer_among, field_says, calls_at, Takes}
 use Rattle.blocks.specs.Handing.{ended_paper, ended_by}
 use Rattle.blocks.specs.Along.{answers_in, Along, stops as Stop, goes as Go, Passed, AsCalls}
@@ -60,12 +61,12 @@ module _ {st : Station} {card : ℕ} {block : List ℕ} {at : ℕ} {r : Taken} (
       ∙ ap (answers_to st card) (sym (calls_where block at e))
 
 -- ---- along a block, from a place on
-pub record FromThere (st : Station) (card : ℕ) (block : List ℕ) (at : ℕ) (answers : List (List ℕ)) (last : Station) (ended : Ended) : Type 0 where
+pub record FromThere (st : Station) (card : ℕ) (block : List ℕ) (at : ℕ) (answers : List (List ℕ)) (last : Station) (ended : Result ⊤ (Why × ℕ)) : Type 0 where
   pub same_answers : answers ≡ answers_to st card (from block at)
   pub same_station : last ≡ after_calls st card (from block at)
   pub end : ended_paper ended ≡ end_from block at
 
-pub from_there : (card : ℕ) (block : List ℕ) (st : Station) (at : ℕ) (answers : List (List ℕ)) (last : Station) (ended : Ended)
+pub from_there : (card : ℕ) (block : List ℕ) (st : Station) (at : ℕ) (answers : List (List ℕ)) (last : Station) (ended : Result ⊤ (Why × ℕ))
     → Along card block st at answers last ended
     → FromThere st card block at answers last ended
 unfolding answers_to
@@ -90,7 +91,7 @@ from_there card block st at answers last ended (Go s k r more l e t n along) =
       end = w.end ∙ sym m.end;
     }
 
-pub as_calls : (st : Station) (card : ℕ) (block : List ℕ) (answers : List (List ℕ)) (last : Station) (ended : Ended) → Along card block st 0 answers last ended
+pub as_calls : (st : Station) (card : ℕ) (block : List ℕ) (answers : List (List ℕ)) (last : Station) (ended : Result ⊤ (Why × ℕ)) → Along card block st 0 answers last ended
     → AsCalls st card block answers last ended
 as_calls st card block answers last ended along =
     let w = from_there card block st 0 answers last ended along in

@@ -7,6 +7,8 @@ use mathlib.Core.List.{List, [], ◌∷◌}
 use Prim.Native.Nat.{ℕ}
 use lib.ListN.{length, replicate, drop}
 use Rattle.strings.specs.Pick.{pick}
+use Rattle.fields.specs.declared.Why.{Why}
+use Rattle.std.specs.Prelude.{Result, ⊤}
 use Rattle.fields.specs.Block.{Call, Offer, Reset, call_in, calls_in}
 use Rattle.channel.specs.Offers.{answer_paper, offer_tests}
 use Rattle.station.specs.declared.Station.{Station}
@@ -20,7 +22,6 @@ use Rattle.station.proofs.EveryHistory.{some_answer, offer_answers, reset_answer
 use Rattle.station.proofs.WellMade.{offer_made, reset_made}
 use Rattle.station.proofs.Demands.{demands}
 use Rattle.blocks.specs.declared.Taken.{Taken}
-use Rattle.blocks.specs.declared.Ended.{Ended}
 use Rattle.blocks.specs.Taking.{answer_in, after_call, after_calls, answers_to, answer_among, field_says, calls_at, Takes}
 use Rattle.blocks.specs.Along.{Along}
 use Rattle.blocks.specs.Isolation.{channel_named, let_in, HandedAlike, Isolation}
@@ -137,7 +138,7 @@ module _ (card : ℕ) (st st' : Station) (w : WellMade st) (w' : WellMade st') (
     ),
   )
 
-  own_block : (block : List ℕ) (answers answers' : List (List ℕ)) (last last' : Station) (ended ended' : Ended) → Along card block st 0 answers last ended
+  own_block : (block : List ℕ) (answers answers' : List (List ℕ)) (last last' : Station) (ended ended' : Result ⊤ (Why × ℕ)) → Along card block st 0 answers last ended
       → Along card block st' 0 answers' last' ended' → HandedAlike card answers answers' last last' ended ended'
   own_block block answers answers' last last' ended ended' along along' =
       let a = as_calls st card block answers last ended along in

@@ -11,6 +11,7 @@ use lib.ListN.{length, get_or, take, drop, length-append, length-drop, get_or-ap
 use lib.Seq.{take-append-le, drop-append-le}
 use borrow.Author.Tests.{le-leb, lt-leb, leb-true, leb-false, le-ltb}
 use Rattle.strings.specs.Pick.{pick}
+use Rattle.std.specs.Prelude.{Result, Ok, Err, ⊤}
 use Rattle.strings.specs.Number.{value_of}
 use Rattle.strings.specs.Numbers.{test_at, first_of, answer_of, left_by, Exactly}
 use Rattle.strings.proofs.Answer.{written_same, exactly as by_tests}
@@ -30,8 +31,6 @@ use Rattle.station.specs.Demand1.{OneAnswer}
 use Rattle.blocks.specs.declared.Told.{Told}
 use Rattle.blocks.specs.declared.Told.TheVariants.{End, Offered, Emptied, Remark, Refused}
 use Rattle.blocks.specs.declared.Taken.{Taken}
-use Rattle.blocks.specs.declared.Ended.{Ended}
-use Rattle.blocks.specs.declared.Ended.TheVariants.{Whole, Refused as Stopped}
 use Rattle.blocks.specs.declared.Handed.{Handed}
 use Rattle.blocks.specs.Taking.{after_calls, told_paper, answer_among, field_says, Takes}
 use Rattle.blocks.specs.Handing.{ended_paper, HandsOver}
@@ -96,11 +95,11 @@ told_same (Refused v i) (Emptied b) e = not_refused v i _ (sym e)
 told_same (Refused v i) Remark e = not_refused v i _ (sym e)
 told_same (Refused v i) (Refused w j) e = refused_same v w i j e
 
-pub ended_same : (t u : Ended) → ended_paper t ≡ ended_paper u → t ≡ u
-ended_same Whole Whole e = refl
-ended_same Whole (Stopped w j) e = not_refused w j _ e
-ended_same (Stopped v i) Whole e = not_refused v i _ (sym e)
-ended_same (Stopped v i) (Stopped w j) e = ap₂ Stopped (why_same v w (ap first e)) (ap second e)
+pub ended_same : (t u : Result ⊤ (Why × ℕ)) → ended_paper t ≡ ended_paper u → t ≡ u
+ended_same (Ok _) (Ok _) e = refl
+ended_same (Ok _) (Err (w, j)) e = not_refused w j _ e
+ended_same (Err (v, i)) (Ok _) e = not_refused v i _ (sym e)
+ended_same (Err (v, i)) (Err (w, j)) e = ap₂ (λ (x : Why) (y : ℕ). Err (x, y)) (why_same v w (ap first e)) (ap second e)
 
 -- ---- NO SECOND ANSWER FITS, and every call answers
 takes_once : (st : Station) (card : ℕ) (block : List ℕ) (at : ℕ) (r q : Taken) → Takes st card block at r → Takes st card block at q → r ≡ q
@@ -111,7 +110,7 @@ takes_once st card block at r q a b =
 
 hands_once : (st : Station) (card : ℕ) (block : List ℕ) (r q : Handed) → HandsOver st card block r → HandsOver st card block q → r ≡ q
 hands_once st card block r q a b =
-    ap₂ (λ (x : Station) (y : Ended). record { station = x; ended = y }) (a.station ∙ sym b.station)
+    ap₂ (λ (x : Station) (y : Result ⊤ (Why × ℕ)). record { station = x; ended = y }) (a.station ∙ sym b.station)
     (ended_same r.ended q.ended (a.end ∙ sym b.end))
 
 field_answers : (st : Station) (card : ℕ) (block : List ℕ) (at : ℕ) → OneAnswer Taken (Takes st card block at)
@@ -174,7 +173,7 @@ module _ (st : Station) (card : ℕ) (block : List ℕ) (at : ℕ) (r : Taken) (
       by false p e = absurd (not_before e (leb-false (length block) at p))
 
 -- ---- field by field as the whole block
-same_station : (st : Station) (card : ℕ) (block : List ℕ) (answers : List (List ℕ)) (last : Station) (ended : Ended) (r : Handed)
+same_station : (st : Station) (card : ℕ) (block : List ℕ) (answers : List (List ℕ)) (last : Station) (ended : Result ⊤ (Why × ℕ)) (r : Handed)
     → Along card block st 0 answers last ended → HandsOver st card block r → (last ≡ r.station) × (ended ≡ r.ended)
 same_station st card block answers last ended r along o =
     let a = as_calls st card block answers last ended along in
@@ -182,12 +181,12 @@ same_station st card block answers last ended r along o =
 
 -- ---- blocks that are written, and blocks end to end
 written : (st : Station) (card : ℕ) (items : List Item) → AllFit items → (r : Handed) → HandsOver st card (block_of items) r
-    → (r.station ≡ after_calls st card (calls_among items)) × (r.ended ≡ Whole)
+    → (r.station ≡ after_calls st card (calls_among items)) × (r.ended ≡ Ok tt)
 written st card items fit r o =
     let w = fields-laws.reads items fit in
-    (o.station ∙ ap (after_calls st card) w.calls, ended_same r.ended Whole (o.end ∙ w.whole))
+    (o.station ∙ ap (after_calls st card) w.calls, ended_same r.ended (Ok tt) (o.end ∙ w.whole))
 
-follow : (st : Station) (card : ℕ) (a b : List ℕ) (r q s : Handed) → HandsOver st card a r → r.ended ≡ Whole → HandsOver r.station card b q
+follow : (st : Station) (card : ℕ) (a b : List ℕ) (r q s : Handed) → HandsOver st card a r → r.ended ≡ Ok tt → HandsOver r.station card b q
     → HandsOver st card (a ++ b) s
     → s.station ≡ q.station
 follow st card a b r q s o e p w =
@@ -239,7 +238,7 @@ no_effect st card before field x y r q w e h o p =
     let b = kept st card before (field ++ y) q w (refused-then field e h y) p in
     let c = o.end ∙ (fields-laws.follow before (field ++ x) w).end ∙ ap (onward (length before)) (end-then field e h x) in
     let d = p.end ∙ (fields-laws.follow before (field ++ y) w).end ∙ ap (onward (length before)) (end-then field e h y) in
-    ap₂ (λ (x : Station) (y : Ended). record { station = x; ended = y }) (a ∙ sym b) (ended_same r.ended q.ended (c ∙ sym d))
+    ap₂ (λ (x : Station) (y : Result ⊤ (Why × ℕ)). record { station = x; ended = y }) (a ∙ sym b) (ended_same r.ended q.ended (c ∙ sym d))
 
 pub laws : Laws
 laws =

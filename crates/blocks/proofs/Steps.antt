@@ -12,6 +12,8 @@ use lib.ListN.{length, get_or, take, drop, length-append, length-drop}
 use lib.Seq.{drop-drop}
 use borrow.Author.Tests.{lt-leb}
 use Rattle.strings.specs.Pick.{pick}
+use Rattle.fields.specs.declared.Why.{Why}
+use Rattle.std.specs.Prelude.{Result, ⊤}
 use Rattle.strings.specs.Numbers.{answer_of}
 use Rattle.fields.specs.Fields.{tag_in, is_unknown, tests_in, is_good, size_in}
 use Rattle.fields.specs.Block.{Call, call_in, fields_in, calls_of, calls_in, joined, end_at, end_from, end_in}
@@ -22,7 +24,6 @@ use Rattle.station.specs.declared.Station.{Station}
 use Rattle.blocks.specs.declared.Told.{Told}
 use Rattle.blocks.specs.declared.Told.TheVariants.{End, Offered, Emptied, Remark, Refused}
 use Rattle.blocks.specs.declared.Taken.{Taken}
-use Rattle.blocks.specs.declared.Ended.{Ended}
 use Rattle.blocks.specs.Taking.{answer_in, after_call, after_calls, answers_to, told_paper, answer_among, field_says, calls_at, Takes}
 use Rattle.blocks.specs.Handing.{ended_paper, HandsOver, is_last, ended_by}
 use Rattle.blocks.proofs.Found.{no_number, calls_where, none_where}
@@ -229,7 +230,7 @@ module _ {st next : Station} {card : ℕ} {block : List ℕ} {at : ℕ} {r : Tak
         end = sym m.end ∙ s.end;
       }
 
-  pub so_far_all : r.after ≡ at → {ended : Ended} → ended ≡ ended_by r.told → HandsOver st card block (record { station = r.station; ended = ended })
+  pub so_far_all : r.after ≡ at → {ended : Result ⊤ (Why × ℕ)} → ended ≡ ended_by r.told → HandsOver st card block (record { station = r.station; ended = ended })
   unfolding after_calls
   so_far_all h {ended} e =
       let m = stops t h in

@@ -1,7 +1,8 @@
 -- Calls and blocks made on a station one after the other, the latest first, with their answers: "demand 3 reads a block as its calls". The latest call of
 -- a block is the last that is written. Proved as `blocks_as_calls` in `proofs/Histories.antt`.
 -- Assumes nothing.
-use Rattle.std.specs.Prelude.{ℕ, ◌≤◌, true, List, [], ◌∷◌, ◌++◌, ◌≡◌}
+use Rattle.std.specs.Prelude.{ℕ, ◌≤◌, true, List, [], ◌∷◌, ◌++◌, ◌≡◌, Result, ⊤}
+use Rattle.fields.specs.declared.Why.{Why}
 use Rattle.strings.specs.Calls.{written_paper}
 use Rattle.fields.specs.Block.{Call, Offer, Reset, calls_in}
 use Rattle.book.specs.Book.{slots}
@@ -19,7 +20,6 @@ use Rattle.station.specs.Demand3.{Answered, Exchanged, SameCalls, Reordered, Sam
 use Rattle.station.specs.Isolation.{AgreeFor, said_by, Isolated}
 use Rattle.station.specs.Health.{HealthIn}
 use Rattle.station.specs.Summary.{SummaryRule}
-use Rattle.blocks.specs.declared.Ended.{Ended}
 use Rattle.blocks.specs.declared.Handed.{Handed}
 use Rattle.blocks.specs.Handing.{HandsOver}
 use Rattle.blocks.specs.Along.{Along}
@@ -37,7 +37,7 @@ pub data RunsBy (from : Station) : List Event → Station → Type 0 where
       → RunsBy from (Calls (said (MadeOffer card c epoch s) (answer_paper r.answer)) ∷ before) r.station
   resets : (card c : ℕ) (before : List Event) (st : Station) (r : Emptied) → RunsBy from before st → Resets st card c r
       → RunsBy from (Calls (said (MadeReset card c) (written_paper r.answer)) ∷ before) r.station
-  hands : (card : ℕ) (block : List ℕ) (answers : List (List ℕ)) (before : List Event) (st : Station) (r : Handed) (last : Station) (ended : Ended)
+  hands : (card : ℕ) (block : List ℕ) (answers : List (List ℕ)) (before : List Event) (st : Station) (r : Handed) (last : Station) (ended : Result ⊤ (Why × ℕ))
       → RunsBy from before st → HandsOver st card block r → Along card block st 0 answers last ended
       → RunsBy from (Hands card block answers ∷ before) r.station
 

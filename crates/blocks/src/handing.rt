@@ -3,7 +3,8 @@ ghost use Rattle.std.specs.Prelude.{◌≡◌};
 ghost use Rattle.blocks.specs.Handing.{is_last, ended_by, HandsOver};
 
 use crate::taking::take_field;
-use crate::{Ended, Handed, Told};
+use crate::{Handed, Told};
+use fields::Why;
 use station::Station;
 
 // Does the fields of a block, which a card hands over, in the order written, up to its end or to the first that is refused.
@@ -12,6 +13,7 @@ pub fn hand_over(st: Station, card: u8, block: &[u8]) -> Handed
 {
     let mut next = st;
     let mut at = 0;
+    // no index is counted: each field says where the next one stands
     loop {
         let taken = take_field(next, card, block, at);
         next = taken.station;
@@ -39,14 +41,14 @@ fn is_last(told: Told) -> bool
     }
 }
 
-fn ended_by(told: Told) -> Ended
+fn ended_by(told: Told) -> Result<(), (Why, usize)>
     ensures { result ≡ ended_by told }
 {
     match told {
-        Told::End => Ended::Whole,
-        Told::Offered(_) => Ended::Whole,
-        Told::Emptied(_) => Ended::Whole,
-        Told::Remark => Ended::Whole,
-        Told::Refused(why, place) => Ended::Refused(why, place),
+        Told::End => Ok(()),
+        Told::Offered(_) => Ok(()),
+        Told::Emptied(_) => Ok(()),
+        Told::Remark => Ok(()),
+        Told::Refused(why, place) => Err((why, place)),
     }
 }

@@ -4,11 +4,11 @@
 mod handing;
 mod taking;
 
-use channel::Answer;
+use channel::TakenString;
 use fields::Why;
 pub use handing::hand_over;
 use station::Station;
-use strings::Written;
+use strings::Refusal;
 pub use taking::take_field;
 
 // What a field leads to: the end of the block; an offer's own answer; a reset's own; a remark, which
@@ -16,8 +16,8 @@ pub use taking::take_field;
 #[derive(Clone, Copy)]
 pub enum Told {
     End,
-    Offered(Answer),
-    Emptied(Written),
+    Offered(Result<TakenString, Refusal>),
+    Emptied(Result<(), Refusal>),
     Remark,
     Refused(Why, usize),
 }
@@ -31,16 +31,9 @@ pub struct Taken {
     pub after: usize,
 }
 
-// How a block ended: whole, or with a field that is refused, at its place.
-#[derive(Clone, Copy)]
-pub enum Ended {
-    Whole,
-    Refused(Why, usize),
-}
-
-// The station after a block, and how it ended.
+// The station after a block, and how it ended: whole, or with a field that is refused, at its place.
 #[derive(Clone, Copy)]
 pub struct Handed {
     pub station: Station,
-    pub ended: Ended,
+    pub ended: Result<(), (Why, usize)>,
 }

@@ -8,10 +8,10 @@ use native.Mathlib.Omega.{arith}
 use borrow.Author.Tests.{le-leb, leb-true}
 use lib.Dec.{leb, lit≤}
 use Rattle.strings.specs.Pick.{pick}
+use Rattle.std.specs.Prelude.{Option, Some, None}
 use Rattle.strings.specs.Number.{word_of}
 use Rattle.records.specs.declared.kinds.Kind.TheVariants.{Five, Even, Odd}
 use Rattle.book.specs.declared.Entry.{Entry}
-use Rattle.book.specs.declared.Shown.TheVariants.{Nothing, At}
 use Rattle.book.specs.Entry.{Three, entry_of}
 use Rattle.words.specs.Good.{is_good}
 use Rattle.book.specs.Shows.{is_shown, four_years, slot_in, day_of, three_of, shown_by}
@@ -64,7 +64,7 @@ module _ (five even odd : ℕ) where
   unfolding shown_by
   some_needs s = by (is_shown five even odd) refl s.is
     where
-      by : (t : Bool) → is_shown five even odd ≡ t → pick t (At (slot_in even) (entry_of (three_of five even odd))) Nothing ≡ At s.slot s.entry → InRange five even odd
+      by : (t : Bool) → is_shown five even odd ≡ t → pick {A = Option (ℕ × Entry)} t (Some (slot_in even, entry_of (three_of five even odd))) None ≡ Some (s.slot, s.entry) → InRange five even odd
       by true p q = shown_needs p
       by false p q = let z : ◌≡◌ {A = ℕ} 0 1 = cc in absurd (omega arith)
 
@@ -72,7 +72,7 @@ module _ (five even odd : ℕ) where
   unfolding shown_by
   some_where r = record { slot = slot_in even; entry = entry_of (three_of five even odd); is = rw (shown_where r) }
 
-  entry_shown : (slot : ℕ) (e : Entry) → shown_by five even odd ≡ At slot e → EntryShown five even odd slot e
+  entry_shown : (slot : ℕ) (e : Entry) → shown_by five even odd ≡ Some (slot, e) → EntryShown five even odd slot e
   unfolding three_of day_of
   entry_shown slot e q =
       let r = shown_fits five even odd slot e q in

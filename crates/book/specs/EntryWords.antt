@@ -1,13 +1,12 @@
 -- The words of an entry, in the bits of the strings that showed it (the paper, "Words"; ICD Table 4.11). The proof stands in
 -- `proofs/EntryWords.antt`.
 -- Assumes nothing.
-use Rattle.std.specs.Prelude.{ℕ, ◌-◌, ◌≤◌, ◌≡◌, pos, neg_ℤ}
+use Rattle.std.specs.Prelude.{ℕ, ◌-◌, ◌≤◌, ◌≡◌, pos, neg_ℤ, Some}
 use Rattle.strings.specs.Number.{word_of}
 use Rattle.words.specs.Names.{signed_in}
 use Rattle.records.specs.declared.named.EvenString.{EvenString}
 use Rattle.records.specs.declared.named.OddString.{OddString}
 use Rattle.book.specs.declared.Entry.{Entry}
-use Rattle.book.specs.declared.Shown.TheVariants.{At}
 use Rattle.book.specs.Entry.{meaning, even_words, odd_words}
 use Rattle.book.specs.Shows.{shown_by}
 
@@ -39,4 +38,4 @@ pub record EntryWords (even odd : ℕ) (e : Entry) : Type 0 where
 
 -- whatever three strings show an entry
 abbrev pub EveryEntrysWords : Type 0
-EveryEntrysWords = (five even odd slot : ℕ) (e : Entry) → shown_by five even odd ≡ At slot e → EntryWords even odd e
+EveryEntrysWords = (five even odd slot : ℕ) (e : Entry) → shown_by five even odd ≡ Some (slot, e) → EntryWords even odd e

@@ -1,18 +1,16 @@
 -- When three strings show an entry, and which, in their bits (the paper, "Frames and the book"; Tables 4.5 and 4.9 give the places): "all words of
 -- the three in range, and N4 at least 1". The proof stands in `proofs/ShownExactly.antt`.
 -- Assumes nothing.
-use Rattle.std.specs.Prelude.{ℕ, ◌+◌, ◌-◌, ◌*◌, ◌^◌, ◌≤◌, ◌↔◌, ◌⊎◌, ◌≡◌}
+use Rattle.std.specs.Prelude.{ℕ, ◌+◌, ◌-◌, ◌*◌, ◌^◌, ◌≤◌, ◌↔◌, ◌⊎◌, ◌≡◌, Option, Some}
 use Rattle.strings.specs.Number.{word_of}
 use Rattle.book.specs.declared.Entry.{Entry}
-use Rattle.book.specs.declared.Shown.{Shown}
-use Rattle.book.specs.declared.Shown.TheVariants.{At}
 use Rattle.book.specs.Shows.{shown_by}
 
 -- an entry, and not nothing
-pub record SomeEntry (s : Shown) : Type 0 where
+pub record SomeEntry (s : Option (ℕ × Entry)) : Type 0 where
   pub slot : ℕ
   pub entry : Entry
-  pub is : s ≡ At slot entry
+  pub is : s ≡ Some (slot, entry)
 
 -- string 5, an even and an odd string, in range: "NA 1..1461; nA 1..24; H 0..13, or 25..31", and "N4 at least 1"
 pub record InRange (five even odd : ℕ) : Type 0 where
@@ -32,4 +30,4 @@ pub record EntryShown (five even odd slot : ℕ) (e : Entry) : Type 0 where
 
 pub record ShownExactly (five even odd : ℕ) : Type 0 where
   pub exactly : SomeEntry (shown_by five even odd) ↔ InRange five even odd
-  pub what : (slot : ℕ) (e : Entry) → shown_by five even odd ≡ At slot e → EntryShown five even odd slot e
+  pub what : (slot : ℕ) (e : Entry) → shown_by five even odd ≡ Some (slot, e) → EntryShown five even odd slot e

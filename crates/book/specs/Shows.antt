@@ -1,12 +1,11 @@
 -- What string 5, an even and an odd string of one frame show (the paper, "Frames and the book").
 -- Assumes nothing.
-use Rattle.std.specs.Prelude.{ℕ, ◌+◌, ◌-◌, ◌*◌, Bool, ◌&&◌, leb}
+use Rattle.std.specs.Prelude.{ℕ, ◌+◌, ◌-◌, ◌*◌, Bool, ◌&&◌, leb, Option, Some, None}
+use Rattle.book.specs.declared.Entry.{Entry}
 use Rattle.strings.specs.Pick.{pick}
 use Rattle.strings.specs.Number.{word_of}
 use Rattle.records.specs.declared.kinds.Kind.TheVariants.{Five, Even, Odd}
 use Rattle.words.specs.Good.{is_good}
-use Rattle.book.specs.declared.Shown.{Shown}
-use Rattle.book.specs.declared.Shown.TheVariants.{Nothing, At}
 use Rattle.book.specs.Entry.{Three, entry_of}
 
 -- N4 and NA of string 5, nA of an even string
@@ -31,5 +30,5 @@ unfoldable pub three_of : ℕ → ℕ → ℕ → Three
 three_of five even odd = record { day = day_of (four_years five) (day_in_four five); even = word_of even 80 9; odd = word_of odd 80 10 }
 
 -- nothing, or the slot nA and the entry
-unfoldable pub shown_by : ℕ → ℕ → ℕ → Shown
-shown_by five even odd = pick (is_shown five even odd) (At (slot_in even) (entry_of (three_of five even odd))) Nothing
+unfoldable pub shown_by : ℕ → ℕ → ℕ → Option (ℕ × Entry)
+shown_by five even odd = pick (is_shown five even odd) (Some (slot_in even, entry_of (three_of five even odd))) None

@@ -6,8 +6,11 @@ use mathlib.Core.Bool.{Bool, true, false, not, ◌&&◌}
 use Prim.Native.Nat.{ℕ, zero, suc, ◌+◌, ◌-◌, ◌*◌, ◌/◌, ◌%◌, ◌≤◌, ◌<◌}
 use native.Mathlib.Nat.{add_comm, lt_of_not-le}
 use native.Mathlib.Omega.{arith}
+use lib.ListN.{get_or}
 use lib.Dec.{T, lit<, lit≤, eqb, leb, ltb, eqb→eq, leb→le, nleb→lt, ltb→lt}
-use borrow.Author.Tests.{lt-ltb, le-ltb}
+use borrow.Author.Tests.{lt-ltb, le-ltb, leb-true, leb-false}
+use Rattle.std.specs.List.Sorted.{IsNonDecreasingBy, IsPartitionPoint}
+use Rattle.std.proofs.lemmas.List.Sorted.{IsNonDecreasingBy-from_all_adjacent}
 use Rattle.strings.proofs.Below.{and_left, and_right, below, below_at}
 use Rattle.calendar.specs.declared.Date.{Date}
 use Rattle.calendar.specs.Calendar.{length_of, date, first_of_next, after, date_of, Real, EveryDay, Later}
@@ -151,34 +154,33 @@ module _ (n j : ℕ) (h : n ≤ 30681) (m : IsMonth (rest_of n) j) where
       cc here
 
 -- ---- the code's search for the month
-pub record Sought (day i : ℕ) : Type 0 where
-  pub small : day < 1461
-  pub one_of_48 : i < 48
-  pub from : start_of i ≤ day
+abbrev rises : ℕ → ℕ → Bool
+rises d k = leb (get_or starts k d) (get_or starts (k + 1) d)
 
--- no month before month j is longer than 31 days
-abbrev early : ℕ → Bool
-early j = leb (start_of j) (31 * j)
-
-all_early : T (below 48 early)
+all_rise : (d : ℕ) → T (below 48 (rises d))
 unfolding starts
-all_early = tt
+all_rise d = tt
 
-pub begins_before : (day : ℕ) → day < 1461 → Sought day (day / 31)
-begins_before day h =
-    let one : day / 31 < 48 = omega arith in
-    record {
-      small = h;
-      one_of_48 = one;
-      from = omega (arith, leb→le (start_of (day / 31)) (31 * (day / 31)) (below_at 48 early all_early (day / 31) one));
-    }
-
-pub goes_on : (day i : ℕ) → Sought day i → start_of (i + 1) ≤ day → Sought day (i + 1)
+pub ascending : IsNonDecreasingBy (λ x. x) starts
 unfolding starts
-goes_on day i s h = record { small = s.small; one_of_48 = lt_of_not-le (λ (g : 48 ≤ i + 1). last (omega (arith, g, s.one_of_48))); from = h }
-  where
-    last : i + 1 ≡ 48 → ⊥
-    last e = omega (arith, rw e at h, s.small)
+ascending =
+    IsNonDecreasingBy-from_all_adjacent (λ x. x) starts
+    (λ k d h. leb→le (get_or starts k d) (get_or starts (k + 1) d) (below_at 48 (rises d) (all_rise d) k (omega (arith, h))))
+
+-- where i months begin on this day or before it, it is of the last of them
+pub month_found : (day i : ℕ) → day < 1461 → IsPartitionPoint (λ y. leb y day ≡ true) (λ y. leb y day ≡ false) starts i → (1 ≤ i) × IsMonth day (i - 1)
+unfolding starts
+month_found day i h p =
+    let one : 1 ≤ i = lt_of_not-le (λ (g : i ≤ 0). omega (arith, leb-false 0 day (p.1 0 0 g (lit< tt)))) in
+    let few : i < 49 = lt_of_not-le (λ (g : 49 ≤ i). omega (arith, leb-true 1461 day (p.0 48 0 (lit≤ tt) g))) in
+    let next : suc (i - 1) ≡ i = omega arith in (
+      one,
+      record {
+        one_of_48 = omega arith;
+        from = leb-true (start_of (i - 1)) day (p.0 (i - 1) 0 (omega arith) (omega arith));
+        before_next = subst (λ (k : ℕ). day < start_of k) (sym next) (leb-false (start_of i) day (p.1 i 0 (omega arith) few));
+      },
+    )
 
 -- ---- each day is one of a month, from 31 December 1995 on
 has_month : (day j : ℕ) → j ≤ 48 → day < start_of j → (i : ℕ) × IsMonth day i

@@ -34,12 +34,8 @@ fn month_of(rest: u32) -> usize
     requires { rest < 1461 }
     ensures { IsMonth rest result }
 {
-    // no month is longer than 31 days, so it is this one or a later one
-    let mut i = (rest / 31) as usize;
-    while STARTS[i + 1] <= rest {
-        i += 1;
-    }
-    i
+    // the last one that begins on this day or before it
+    STARTS.partition_point(|start| *start <= rest) - 1
 }
 
 // On which day of four years each month begins, counted from 0, and the end of the last.

@@ -7,6 +7,9 @@ use Prim.Native.Nat.{ℕ, zero, suc, ◌^◌, ◌<◌}
 use native.Mathlib.Omega.{arith}
 use lib.ListN.{get_or}
 use Rattle.strings.specs.declared.Verdict.{Verdict}
+use Rattle.strings.specs.declared.Refusal.{Refusal}
+use Rattle.channel.specs.declared.TakenString.{TakenString}
+use Rattle.std.specs.Prelude.{Result, Err, Ok}
 use Rattle.strings.specs.Number.{number_of, misshapen, bytes_of_string}
 use Rattle.strings.specs.Numbers.{first_of, place_of, said_by, answer_of}
 use Rattle.strings.proofs.Value.{string_number_lem}
@@ -18,13 +21,11 @@ use Rattle.relative.specs.Polarity.{polarity_of, polarity_number, turned}
 use Rattle.relative.proofs.RelativeCode.{inverse_lt, inverse_alike, polarity_told, polarity_turned}
 use Rattle.hearing.specs.Hears.{plain_of, whole_of, verdict_in}
 use Rattle.channel.specs.declared.News.{News}
-use Rattle.channel.specs.declared.Answer.{Answer}
-use Rattle.channel.specs.declared.Answer.TheVariants.{Taken, Refused}
 use Rattle.channel.specs.declared.Row.{Row}
 use Rattle.channel.specs.declared.Offered.{Offered}
 use Rattle.channel.specs.Frame.{Frame, news_of}
 use Rattle.channel.specs.Row.{frame_of}
-use Rattle.channel.specs.Offers.{told_as, answer_paper, offer_tests, told_to, offered_row, Offers}
+use Rattle.channel.specs.Offers.{told_as, answer_paper, offer_tests, told_to, offered_row, Offers, took}
 use Rattle.channel.specs.Laws.{other_way, EitherWay}
 use Rattle.channel.proofs.Answers.{answer_same}
 use Rattle.channel.proofs.HeldFrame.{offered_is, said_by_lem}
@@ -48,13 +49,13 @@ inverse_turned x h =
 
 -- ---- the answers
 -- by the first test that fits: the same refusal, or taken with the other polarity
-pub other_way_lem : (k : ℕ) (place : List ℕ) (m : ℕ) (v : Verdict) (w : News) (p q : Polarity) (a b : Answer) → q ≡ turned p
+pub other_way_lem : (k : ℕ) (place : List ℕ) (m : ℕ) (v : Verdict) (w : News) (p q : Polarity) (a b : Result TakenString Refusal) → q ≡ turned p
     → answer_paper a ≡ said_by k place (told_as m v w ++ (polarity_number p ∷ [])) → answer_paper b ≡ said_by k place (told_as m v w ++ (polarity_number q ∷ []))
     → b ≡ other_way a
 other_way_lem zero place m v w p q a b t e f =
-    answer_same b (Taken m v w q) f ∙ ap (Taken m v w) t ∙ sym (ap other_way (answer_same a (Taken m v w p) e))
-other_way_lem (suc k) place m v w p q (Taken i x y z) b t e f = let n : ◌≡◌ {A = ℕ} 0 (suc k) = ap (λ (l : List ℕ). get_or l 0 0) e in absurd (omega arith)
-other_way_lem (suc k) place m v w p q (Refused why) b t e f = answer_same b (Refused why) (f ∙ sym e)
+    answer_same b (took m v w q) f ∙ ap (took m v w) t ∙ sym (ap other_way (answer_same a (took m v w p) e))
+other_way_lem (suc k) place m v w p q (Ok said) b t e f = let n : ◌≡◌ {A = ℕ} 0 (suc k) = ap (λ (l : List ℕ). get_or l 0 0) e in absurd (omega arith)
+other_way_lem (suc k) place m v w p q (Err why) b t e f = answer_same b (Err why) (f ∙ sym e)
 
 -- what is told, with the number of the polarity in the place of the first symbol
 pub polarity_in : (f : Frame) (epoch : ℕ) (s : List ℕ)

@@ -11,6 +11,9 @@ use lib.Dec.{eqb}
 use lib.ListN.{length, get_or, drop, length-replicate}
 use lib.Seq.{length-sets}
 use Rattle.strings.specs.Pick.{pick}
+use Rattle.strings.specs.declared.Refusal.{Refusal}
+use Rattle.channel.specs.declared.TakenString.{TakenString}
+use Rattle.std.specs.Prelude.{Result, Err, Ok}
 use Rattle.strings.specs.Number.{bytes_of_string}
 use Rattle.strings.specs.Numbers.{Test, first_of, place_of, said_by, answer_of}
 use Rattle.strings.proofs.Answer.{refusal_known}
@@ -18,8 +21,6 @@ use Rattle.strings.proofs.Tests.{past_first}
 use Rattle.words.specs.Calls.{number_in}
 use Rattle.channel.specs.declared.Row.{Row}
 use Rattle.channel.specs.declared.Offered.{Offered}
-use Rattle.channel.specs.declared.Answer.{Answer}
-use Rattle.channel.specs.declared.Answer.TheVariants.{Taken as TAKEN, Refused as REFUSED}
 use Rattle.channel.specs.Frame.{Frame, with_string, start_of, is_of_frame, is_here, frame_for, after_string, place_tests}
 use Rattle.channel.specs.Row.{Held, frame_in, held_of, frame_of, empty_row, new_frame, held_for, stored, held_with, counted}
 use Rattle.hearing.specs.Hears.{whole_of}
@@ -107,9 +108,9 @@ first_said ts told = by (first_of ts)
     by (suc k) = refl
 
 -- a taken answer begins with 0, and no refusal does
-taken_said : (a : Answer) → eqb (get_or (answer_paper a) 0 0) 0 ≡ is_taken a
-taken_said (TAKEN m v w p) = refl
-taken_said (REFUSED q) = (refusal_known q).1
+taken_said : (a : Result TakenString Refusal) → eqb (get_or (answer_paper a) 0 0) 0 ≡ is_taken a
+taken_said (Ok said) = refl
+taken_said (Err q) = (refusal_known q).1
 
 -- an offer is taken exactly where none of its tests fits
 pub taken_exactly : (row : Row) (epoch : ℕ) (s : List ℕ) (r : Offered) → Offers row epoch s r

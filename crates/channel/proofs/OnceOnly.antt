@@ -10,13 +10,14 @@ use borrow.Author.Tests.{ne_eqb, not-false}
 use lib.Dec.{eqb, leb}
 use lib.ListN.{get_or}
 use Rattle.strings.specs.Pick.{pick}
+use Rattle.strings.specs.declared.Refusal.{Refusal}
+use Rattle.channel.specs.declared.TakenString.{TakenString}
+use Rattle.std.specs.Prelude.{Result, Err, Ok}
 use Rattle.strings.specs.declared.Verdict.{Verdict}
 use Rattle.strings.specs.Numbers.{Test, Exactly, left_by, first_of, place_of, said_by}
 use Rattle.strings.specs.Calls.{sound_tests}
 use Rattle.strings.proofs.Answer.{exactly}
 use Rattle.channel.specs.declared.News.TheVariants.{AlreadyHeld, Kept, RecordBuilt, RecordOutOfRange}
-use Rattle.channel.specs.declared.Answer.{Answer}
-use Rattle.channel.specs.declared.Answer.TheVariants.{Taken, Refused}
 use Rattle.channel.specs.declared.Row.{Row}
 use Rattle.channel.specs.declared.Offered.{Offered}
 use Rattle.words.specs.Calls.{number_in}
@@ -28,7 +29,7 @@ use Rattle.channel.specs.Frame.{Frame, with_string, start_of, is_here, frame_for
 use Rattle.tallies.specs.Tallies.Outcome.{Taken as TAKEN}
 use Rattle.channel.specs.Row.{frame_of, held_with, counted}
 use Rattle.hearing.specs.Hears.{whole_of, verdict_in}
-use Rattle.channel.specs.Offers.{told_of, told_to, answer_paper, offer_tests, Offers, taken_row, is_taken, is_new, is_stored, stores_it}
+use Rattle.channel.specs.Offers.{told_of, told_to, answer_paper, offer_tests, Offers, taken_row, is_taken, is_new, is_stored, stores_it, took}
 use Rattle.channel.proofs.Answers.{answer_same}
 use Rattle.channel.proofs.HeldFrame.{offered_is, taken_exactly}
 
@@ -36,7 +37,7 @@ use Rattle.channel.proofs.HeldFrame.{offered_is, taken_exactly}
 pub offers_once : (row : Row) (epoch : ℕ) (s : List ℕ) (r q : Offered) → Offers row epoch s r → Offers row epoch s q → r ≡ q
 unfolding Offers
 offers_once row epoch s r q a b =
-    ap₂ (λ (x : Row) (y : Answer). record { row = x; answer = y }) (a.left ∙ sym b.left) (answer_same r.answer q.answer (a.answer ∙ sym b.answer))
+    ap₂ (λ (x : Row) (y : Result TakenString Refusal). record { row = x; answer = y }) (a.left ∙ sym b.left) (answer_same r.answer q.answer (a.answer ∙ sym b.answer))
 
 -- ---- "The first that fits is given, and given only then"
 pub offers_exactly : (row : Row) (epoch : ℕ) (s : List ℕ) (r : Offered) → Offers row epoch s r → Exactly (offer_tests (frame_of row) epoch s) (answer_paper r.answer)
@@ -68,20 +69,20 @@ stored_said row epoch s r o = by r.answer (first_of tests) refl o.answer
     tests : List Test
     tests = offer_tests (frame_of row) epoch s
 
-    by : (a : Answer) (k : ℕ) → first_of tests ≡ k
+    by : (a : Result TakenString Refusal) (k : ℕ) → first_of tests ≡ k
         → answer_paper a ≡ said_by k (place_of tests) (told_to (frame_of row) epoch s)
         → is_stored a ≡ (eqb k 0 && not (is_here (frame_of row) epoch (whole_of s)))
     by a zero e q =
         let n = whole_of s in
         let told = told_of (frame_of row) epoch n (verdict_in s) in
         let p = q ∙ ap (λ (b : ℕ). 0 ∷ (told ++ (b ∷ []))) (sym (polarity_told (number_of s))) in
-        ap is_stored (answer_same a (Taken (number_in n) (verdict_in s) (news_of (frame_of row) epoch n) (polarity_of (number_of s))) p) ∙ new_of (frame_of row) epoch n
-    by (Taken m v w t) (suc k) e q = let z : ◌≡◌ {A = ℕ} 0 (suc k) = ap (λ (l : List ℕ). get_or l 0 0) q in absurd (omega arith)
-    by (Refused p) (suc k) e q = ap (λ (t : Bool). t && not (is_here (frame_of row) epoch (whole_of s))) (sym (ne_eqb (suc k) 0 (λ z. omega arith)))
+        ap is_stored (answer_same a (took (number_in n) (verdict_in s) (news_of (frame_of row) epoch n) (polarity_of (number_of s))) p) ∙ new_of (frame_of row) epoch n
+    by (Ok said) (suc k) e q = let z : ◌≡◌ {A = ℕ} 0 (suc k) = ap (λ (l : List ℕ). get_or l 0 0) q in absurd (omega arith)
+    by (Err p) (suc k) e q = ap (λ (t : Bool). t && not (is_here (frame_of row) epoch (whole_of s))) (sym (ne_eqb (suc k) 0 (λ z. omega arith)))
 
 -- ---- "ONE ALREADY HELD CHANGES ONLY TALLIES"
 pub held_only : (row : Row) (epoch : ℕ) (s : List ℕ) (r : Offered) (m : ℕ) (v : Verdict) (p : Polarity) → Offers row epoch s r
-    → r.answer ≡ Taken m v AlreadyHeld p → r.row ≡ counted (TAKEN (verdict_in s)) row
+    → r.answer ≡ took m v AlreadyHeld p → r.row ≡ counted (TAKEN (verdict_in s)) row
 unfolding taken_row held_with
 held_only row epoch s r m v p o e =
     let t : eqb (first_of (offer_tests (frame_of row) epoch s)) 0 ≡ true = sym (taken_exactly row epoch s r o) ∙ ap is_taken e in

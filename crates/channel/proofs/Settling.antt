@@ -10,10 +10,9 @@ use lib.Arith.{lt_of_le-ne}
 use lib.Dec.{eqb}
 use lib.ListN.{length, get_or, drop}
 use Rattle.strings.specs.Pick.{pick}
+use Rattle.std.specs.Prelude.{Result, Ok, Err}
 use Rattle.strings.specs.declared.Refusal.{Refusal}
 use Rattle.strings.specs.declared.Verdict.{Verdict}
-use Rattle.strings.specs.declared.Checked.{Checked}
-use Rattle.strings.specs.declared.Checked.TheVariants.{Taken as Sound, Refused as NotTaken}
 use Rattle.strings.specs.Number.{number_of, misshapen}
 use Rattle.strings.specs.Hamming.{ruling}
 use Rattle.strings.specs.Numbers.{refusal_paper, Test, first_of, place_of, said_by, answer_of}
@@ -21,11 +20,9 @@ use Rattle.strings.specs.Calls.{checked_paper, verdict_told}
 use Rattle.words.specs.Calls.{number_in}
 use Rattle.strings.proofs.Below.{both}
 use Rattle.channel.specs.declared.Fate.{Fate}
-use Rattle.channel.specs.declared.Fate.TheVariants.{Refused as No, Held as Here, New}
+use Rattle.channel.specs.declared.Fate.TheVariants.{Held as Here, New}
 use Rattle.channel.specs.declared.News.{News}
 use Rattle.channel.specs.declared.News.TheVariants.{AlreadyHeld}
-use Rattle.channel.specs.declared.Placed.{Placed}
-use Rattle.channel.specs.declared.Placed.TheVariants.{Taken, Refused}
 use Rattle.channel.specs.declared.Row.{Row}
 use Rattle.channel.specs.declared.Offered.{Offered}
 use Rattle.tallies.specs.Tallies.{Outcome}
@@ -49,24 +46,24 @@ use Rattle.hearing.proofs.Hearing.{none_fits_lem, heard_then, heard_number, hear
 -- ---- test by test
 -- a refusal by some tests is one by these and others after them: nothing changes
 module _ {told : List ℕ} {h taken : Held} (q : Refusal) (before : List ℕ) where
-  first_fits : (k : ℕ) (p : List ℕ) (b : Bool) (ts us : List Test) → (refusal_paper q ≡ answer_of ts before → Settles us told h taken (Refused q) h)
+  first_fits : (k : ℕ) (p : List ℕ) (b : Bool) (ts us : List Test) → (refusal_paper q ≡ answer_of ts before → Settles us told h taken (Err q) h)
       → refusal_paper q ≡ said_by (pick b k (first_of ts)) (pick b p (place_of ts)) before
-      → Settles (record { number = k; place = p; fits = b } ∷ us) told h taken (Refused q) h
+      → Settles (record { number = k; place = p; fits = b } ∷ us) told h taken (Err q) h
   first_fits zero p true ts us ih e = absurd (not_taken q before e)
   first_fits (suc k) p true ts us ih e = record { answer = e; left = rw (ne_eqb (suc k) 0 (λ z. omega arith)) }
   first_fits k p false ts us ih e = let t = ih e in record { answer = t.answer; left = t.left }
 
-  pub refuses : (ts us : List Test) → refusal_paper q ≡ answer_of ts before → Settles (ts ++ us) told h taken (Refused q) h
+  pub refuses : (ts us : List Test) → refusal_paper q ≡ answer_of ts before → Settles (ts ++ us) told h taken (Err q) h
   refuses [] us e = absurd (not_taken q before e)
   refuses (t ∷ ts) us e = first_fits t.number t.place t.fits ts (ts ++ us) (refuses ts us) e
 
 -- a string that is heard: the tests of its place decide
-settles_heard : {told : List ℕ} {h taken : Held} {a : Placed} {h' : Held} {ts : List Test} (s : List ℕ) → misshapen s ≡ false → IsSound (plain_of s)
+settles_heard : {told : List ℕ} {h taken : Held} {a : Result (ℕ × Verdict × News) Refusal} {h' : Held} {ts : List Test} (s : List ℕ) → misshapen s ≡ false → IsSound (plain_of s)
     → Settles ts told h taken a h' → Settles (hear_tests s ++ ts) told h taken a h'
 settles_heard {ts} s e i k = let p = heard_then s ts e i in record { answer = rw (p.0, p.1) k.answer; left = rw p.0 k.left }
 
 -- no test fits
-takes : {told : List ℕ} {h taken : Held} {a : Placed} {h' : Held} (ts : List Test) → first_of ts ≡ 0 → placed_paper a ≡ 0 ∷ told → h' ≡ taken
+takes : {told : List ℕ} {h taken : Held} {a : Result (ℕ × Verdict × News) Refusal} {h' : Held} (ts : List Test) → first_of ts ≡ 0 → placed_paper a ≡ 0 ∷ told → h' ≡ taken
     → Settles ts told h taken a h'
 takes {told} {h} {taken} ts z e f =
     record { answer = e ∙ ap (λ (k : ℕ). said_by k (place_of ts) told) (sym z); left = f ∙ ap (λ (k : ℕ). pick (eqb k 0) taken h) (sym z) }
@@ -100,14 +97,14 @@ joined : (h : Held) (start : ℕ) (t : Bool) → is_of_frame (frame_in h) start 
 joined h start true e = joined_held h start e
 joined h start false e = joined_new h start
 
-module _ (h : Held) (epoch n : ℕ) (v : Verdict) (r : Fate) (f : FateBy (place_tests (frame_in h) epoch n) h epoch n r) where
+module _ (h : Held) (epoch n : ℕ) (v : Verdict) (r : Result Fate Refusal) (f : FateBy (place_tests (frame_in h) epoch n) h epoch n r) where
   abbrev tests : List Test
   tests = place_tests (frame_in h) epoch n
 
-  pub placed_not : (q : Refusal) → r ≡ No q → Places h epoch n v (Refused q) h
+  pub placed_not : (q : Refusal) → r ≡ Err q → Places h epoch n v (Err q) h
   placed_not q e = refuses q (fate_told h epoch n) tests [] (ap fate_paper (sym e) ∙ f)
 
-  pub placed_here : r ≡ Here → Places h epoch n v (Taken (number_in n) v AlreadyHeld) h
+  pub placed_here : r ≡ Ok Here → Places h epoch n v (Ok (number_in n, v, AlreadyHeld)) h
   unfolding held_with
   placed_here e =
       let p = fated_here (first_of tests) (place_of tests) _ (is_here (frame_in h) epoch n) (ap fate_paper (sym e) ∙ f) in
@@ -115,7 +112,7 @@ module _ (h : Held) (epoch n : ℕ) (v : Verdict) (r : Fate) (f : FateBy (place_
       (ap (λ (t : Bool). 0 ∷ told_as (number_in n) v (pick t AlreadyHeld (news_at (with_string (frame_for (frame_in h) (start_of epoch n)) n) (number_in n)))) (sym p.1))
       (ap (λ (t : Bool). pick t h (stored (held_for h (start_of epoch n)) n)) (sym p.1))
 
-  module _ (start mask : ℕ) (e : r ≡ New start mask) where
+  module _ (start mask : ℕ) (e : r ≡ Ok (New start mask)) where
     facts : ((first_of tests ≡ 0) × (is_here (frame_in h) epoch n ≡ false))
         × ((start ≡ start_of epoch n) × (mask ≡ pick (is_of_frame (frame_in h) (start_of epoch n)) h.mask 0))
     facts = fated_new (first_of tests) (place_of tests) start mask _ _ (is_here (frame_in h) epoch n) (ap fate_paper (sym e) ∙ f)
@@ -127,7 +124,7 @@ module _ (h : Held) (epoch n : ℕ) (v : Verdict) (r : Fate) (f : FateBy (place_
         lt_of_le-ne (omega arith) (λ q. z (sym q))
 
     -- it is stored in the frame that it joins
-    pub placed_new : (a : Placed) (h' : Held) → StoresIn (held start mask (bytes_by mask h.bytes)) n v a h' → Places h epoch n v a h'
+    pub placed_new : (a : Result (ℕ × Verdict × News) Refusal) (h' : Held) → StoresIn (held start mask (bytes_by mask h.bytes)) n v a h' → Places h epoch n v a h'
     unfolding held_with
     placed_new a h' s =
         let o = start_of epoch n in
@@ -142,30 +139,30 @@ module _ (h : Held) (epoch n : ℕ) (v : Verdict) (r : Fate) (f : FateBy (place_
         (k.left ∙ ap (λ (t : Bool). pick t h (stored (held_for h o) n)) (sym facts.0.1))
 
 -- ---- what is heard comes to
-module _ (h : Held) (epoch : ℕ) (s out out' : List ℕ) (c : Checked) (a : Hears s out c out') where
-  pub heard_no : (q : Refusal) → c ≡ NotTaken q → OffersApart h epoch s (Refused q) h
+module _ (h : Held) (epoch : ℕ) (s out out' : List ℕ) (c : Result Verdict Refusal) (a : Hears s out c out') where
+  pub heard_no : (q : Refusal) → c ≡ Err q → OffersApart h epoch s (Err q) h
   unfolding Hears
   heard_no q e =
       refuses q (verdict_told (ruling (plain_of s))) (hear_tests s) (place_tests (frame_in h) epoch (whole_of s)) (ap checked_paper (sym e) ∙ a.answer)
 
-  pub heard_shaped : (v : Verdict) → c ≡ Sound v → misshapen out' ≡ false
-  heard_shaped v e = heard_shape s out out' v (subst (λ (y : Checked). Hears s out y out') e a)
+  pub heard_shaped : (v : Verdict) → c ≡ Ok v → misshapen out' ≡ false
+  heard_shaped v e = heard_shape s out out' v (subst (λ (y : Result Verdict Refusal). Hears s out y out') e a)
 
-  pub heard_on_lem : (v : Verdict) → c ≡ Sound v → (x : Placed) (h' : Held) → Places h epoch (number_of out') v x h' → OffersApart h epoch s x h'
+  pub heard_on_lem : (v : Verdict) → c ≡ Ok v → (x : Result (ℕ × Verdict × News) Refusal) (h' : Held) → Places h epoch (number_of out') v x h' → OffersApart h epoch s x h'
   heard_on_lem v e x h' p =
-      let b : Hears s out (Sound v) out' = subst (λ (y : Checked). Hears s out y out') e a in
+      let b : Hears s out (Ok v) out' = subst (λ (y : Result Verdict Refusal). Hears s out y out') e a in
       let n = none_fits_lem s out out' v b in
       settles_heard s n.0 n.1
       (subst (λ (w : Verdict). Places h epoch (whole_of s) w x h') (heard_verdict s out out' v b)
       (subst (λ (k : ℕ). Places h epoch k v x h') (heard_number s out out' v b) p))
 
 -- what is taken has eleven bytes
-pub placed_whole : (h : Held) (epoch : ℕ) (s : List ℕ) (a : Placed) (h' : Held) → OffersApart h epoch s a h' → is_placed a ≡ true → length s ≡ 11
-placed_whole h epoch s (Taken m v w) h' o e =
+pub placed_whole : (h : Held) (epoch : ℕ) (s : List ℕ) (a : Result (ℕ × Verdict × News) Refusal) (h' : Held) → OffersApart h epoch s a h' → is_placed a ≡ true → length s ≡ 11
+placed_whole h epoch s (Ok (m, v, w)) h' o e =
     let ts = offer_tests (frame_in h) epoch s in
     let z : ◌≡◌ {A = ℕ} 0 (first_of ts) = ap (λ (l : List ℕ). get_or l 0 0) o.answer ∙ first_said ts _ in
     (shaped s (past_first 1 (misshapen s) (drop 1 ts) (sym z)).0).0
-placed_whole h epoch s (Refused q) h' o e = absurd (true≢false (sym e))
+placed_whole h epoch s (Err q) h' o e = absurd (true≢false (sym e))
 
 -- ---- the row of it all: what is held, the record and the tallies by the answer
 abbrev pub row_by : Row → Held → Bool → Outcome → Row
@@ -184,7 +181,7 @@ module _ (row : Row) (epoch : ℕ) (s : List ℕ) where
   row_by_lem k true = refl
   row_by_lem k false = refl
 
-  pub offers_by : (h' : Held) (said : Placed) (r : Offered) → OffersApart (held_of row) epoch s said h' → r.answer ≡ told_with said (polarity_of (number_of s))
+  pub offers_by : (h' : Held) (said : Result (ℕ × Verdict × News) Refusal) (r : Offered) → OffersApart (held_of row) epoch s said h' → r.answer ≡ told_with said (polarity_of (number_of s))
       → r.row ≡ row_by row h' (tells_record said) (outcome_of r.answer) → Offers row epoch s r
   unfolding Offers
   offers_by h' said r a t e =

@@ -1,7 +1,9 @@
 -- What an offer does to a row, in numbers: the bits of strings, the bytes and the mask of rows, starts and epochs. The definitions say how an offer is
 -- decided; these laws say what comes of it, in none of their words. The sentences in quotes are the paper's. The proofs stand in `proofs/`.
 -- Assumes nothing.
-use Rattle.std.specs.Prelude.{ℕ, ◌+◌, ◌-◌, ◌*◌, ◌/◌, ◌%◌, ◌^◌, ◌≤◌, ◌<◌, false, List, [], ◌∷◌, ◌⊎◌, ◌↔◌, ◌≡◌, refl, length, get_or, take, drop, replicate}
+use Rattle.std.specs.Prelude.{ℕ, ◌+◌, ◌-◌, ◌*◌, ◌/◌, ◌%◌, ◌^◌, ◌≤◌, ◌<◌, false, List, [], ◌∷◌, ◌⊎◌, ◌↔◌, ◌≡◌, refl, length, get_or, take, drop, replicate, Result, Err, Ok}
+use Rattle.strings.specs.declared.Refusal.{Refusal}
+use Rattle.channel.specs.declared.TakenString.{TakenString}
 use Rattle.strings.specs.Number.{number_of, bit_of, word_of, bytes_of_string}
 use Rattle.strings.specs.Calls.{sound_tests}
 use Rattle.strings.specs.Hamming.{ruling, is_damaged}
@@ -12,12 +14,10 @@ use Rattle.immediate.specs.Ranges.{InRange}
 use Rattle.tallies.specs.Counts.{OneCause}
 use Rattle.hearing.specs.Hears.{plain_of, whole_of}
 use Rattle.channel.specs.declared.Row.{Row}
-use Rattle.channel.specs.declared.Answer.{Answer}
-use Rattle.channel.specs.declared.Answer.TheVariants.{Taken, Refused}
 use Rattle.channel.specs.declared.Offered.{Offered}
 use Rattle.channel.specs.Frame.{Frame}
 use Rattle.channel.specs.Row.{frame_of, still_holds}
-use Rattle.channel.specs.Offers.{answer_paper, offer_tests, Offers}
+use Rattle.channel.specs.Offers.{answer_paper, offer_tests, Offers, took}
 use Rattle.channel.specs.History.{Call, makes_record, Runs}
 
 -- ---- the numbers
@@ -113,9 +113,9 @@ pub record NewsTold (row : Row) (epoch : ℕ) (s : List ℕ) (r : Offered) : Typ
 
 -- ---- "A string and its inverse now answer alike except in this field": the same refusal; or taken with the same m, verdict and news, and with the other
 -- polarity
-abbrev pub other_way : Answer → Answer
-other_way (Taken m v w p) = Taken m v w (turned p)
-other_way (Refused why) = Refused why
+abbrev pub other_way : Result TakenString Refusal → Result TakenString Refusal
+other_way (Ok said) = took said.m said.verdict said.news (turned said.polarity)
+other_way (Err why) = Err why
 
 -- what the string was answered and left, and what the same with all 85 symbols inverted: "Station contents .. do not depend on it"
 pub record EitherWay (r inverted : Offered) : Type 0 where

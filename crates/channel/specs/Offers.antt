@@ -1,6 +1,8 @@
 -- Offering a string to a row: one relation between what was handed in, the answer and the row left behind (the paper, "Numbers that say no").
 -- Assumes nothing.
-use Rattle.std.specs.Prelude.{ℕ, Bool, true, false, not, ◌&&◌, List, [], ◌∷◌, ◌++◌, ◌≡◌, eqb, get_or}
+use Rattle.std.specs.Prelude.{ℕ, Bool, true, false, not, ◌&&◌, List, [], ◌∷◌, ◌++◌, ◌≡◌, eqb, get_or, Result, Ok, Err}
+use Rattle.channel.specs.declared.TakenString.{TakenString}
+use Rattle.strings.specs.declared.Refusal.{Refusal}
 use Rattle.strings.specs.Pick.{pick, is_one_of}
 use Rattle.strings.specs.declared.Refusal.TheVariants.{Conflict}
 use Rattle.strings.specs.declared.Verdict.{Verdict}
@@ -12,12 +14,8 @@ use Rattle.relative.specs.Polarity.{first_symbol, polarity_number}
 use Rattle.hearing.specs.Hears.{whole_of, verdict_in, hear_tests}
 use Rattle.channel.specs.declared.News.{News}
 use Rattle.channel.specs.declared.News.TheVariants.{AlreadyHeld, Kept, RecordBuilt, RecordOutOfRange}
-use Rattle.channel.specs.declared.Placed.{Placed}
-use Rattle.channel.specs.declared.Placed.TheVariants.{Taken as IsPlaced, Refused as NotPlaced}
-use Rattle.channel.specs.declared.Answer.{Answer}
-use Rattle.channel.specs.declared.Answer.TheVariants.{Taken, Refused}
 use Rattle.channel.specs.declared.Fate.{Fate}
-use Rattle.channel.specs.declared.Fate.TheVariants.{Refused as No, Held as Here, New}
+use Rattle.channel.specs.declared.Fate.TheVariants.{Held as Here, New}
 use Rattle.channel.specs.declared.Row.{Row}
 use Rattle.channel.specs.declared.Offered.{Offered}
 use Rattle.tallies.specs.declared.Tallies.{Tallies}
@@ -40,28 +38,32 @@ abbrev pub told_as : ℕ → Verdict → News → List ℕ
 told_as m v w = m ∷ (verdict_paper v ++ (news_number w ∷ []))
 
 -- 0 and what is told of a plain string that is taken; or the number that says no
-abbrev pub placed_paper : Placed → List ℕ
-placed_paper (IsPlaced m v w) = 0 ∷ told_as m v w
-placed_paper (NotPlaced r) = refusal_paper r
+abbrev pub placed_paper : Result (ℕ × Verdict × News) Refusal → List ℕ
+placed_paper (Ok (m, v, w)) = 0 ∷ told_as m v w
+placed_paper (Err r) = refusal_paper r
+
+-- an offer's answer where the string is taken
+abbrev pub took : ℕ → Verdict → News → Polarity → Result TakenString Refusal
+took m v w p = Ok (record { m = m; verdict = v; news = w; polarity = p })
 
 -- "The offer's taken answer carries it": the polarity of the symbols, 0 upright or 1 inverted, is told last
-abbrev pub answer_paper : Answer → List ℕ
-answer_paper (Taken m v w p) = 0 ∷ (told_as m v w ++ (polarity_number p ∷ []))
-answer_paper (Refused r) = refusal_paper r
+abbrev pub answer_paper : Result TakenString Refusal → List ℕ
+answer_paper (Ok said) = 0 ∷ (told_as said.m said.verdict said.news ++ (polarity_number said.polarity ∷ []))
+answer_paper (Err r) = refusal_paper r
 
 -- the answer to a plain string, told with the polarity of the symbols that it was read from
-abbrev pub told_with : Placed → Polarity → Answer
-told_with (IsPlaced m v w) p = Taken m v w p
-told_with (NotPlaced r) p = Refused r
+abbrev pub told_with : Result (ℕ × Verdict × News) Refusal → Polarity → Result TakenString Refusal
+told_with (Ok (m, v, w)) p = took m v w p
+told_with (Err r) p = Err r
 
-abbrev pub is_placed : Placed → Bool
-is_placed (IsPlaced m v w) = true
-is_placed (NotPlaced r) = false
+abbrev pub is_placed : Result (ℕ × Verdict × News) Refusal → Bool
+is_placed (Ok (m, v, w)) = true
+is_placed (Err r) = false
 
 -- whether it is told that a record is built
-abbrev pub tells_record : Placed → Bool
-tells_record (IsPlaced m v w) = is_built w
-tells_record (NotPlaced r) = false
+abbrev pub tells_record : Result (ℕ × Verdict × News) Refusal → Bool
+tells_record (Ok (m, v, w)) = is_built w
+tells_record (Err r) = false
 
 -- ---- the tests are tried in order; "offers refused with 2..9 add to the tallies offered and refused" and change nothing else
 abbrev pub settled {ℓ} : {A : Type ℓ} → List Test → A → A → A
@@ -69,7 +71,7 @@ settled tests a taken = pick (eqb (first_of tests) 0) taken a
 
 -- an offer to what is held that tries these tests in this order: its answer in the paper's numbers, and what is held after it, where a taken
 -- string tells `told` and leaves `taken`
-pub record Settles (tests : List Test) (told : List ℕ) (h taken : Held) (a : Placed) (h' : Held) : Type 0 where
+pub record Settles (tests : List Test) (told : List ℕ) (h taken : Held) (a : Result (ℕ × Verdict × News) Refusal) (h' : Held) : Type 0 where
   pub answer : placed_paper a ≡ answer_of tests told
   pub left : h' ≡ settled tests h taken
 
@@ -78,44 +80,44 @@ abbrev pub told_of : Frame → ℕ → ℕ → Verdict → List ℕ
 told_of f epoch n v = told_as (number_in n) v (news_of f epoch n)
 
 -- after these tests
-abbrev pub PlacesBy : List Test → Held → ℕ → ℕ → Verdict → Placed → Held → Type 0
+abbrev pub PlacesBy : List Test → Held → ℕ → ℕ → Verdict → Result (ℕ × Verdict × News) Refusal → Held → Type 0
 PlacesBy tests h epoch n v a h' = Settles tests (told_of (frame_in h) epoch n v) h (held_with h epoch n) a h'
 
 -- 5 to 9
-abbrev pub Places : Held → ℕ → ℕ → Verdict → Placed → Held → Type 0
+abbrev pub Places : Held → ℕ → ℕ → Verdict → Result (ℕ × Verdict × News) Refusal → Held → Type 0
 Places h epoch n v a h' = PlacesBy (place_tests (frame_in h) epoch n) h epoch n v a h'
 
 -- stored where it is new: the answer and what is held
-pub record StoresIn (h : Held) (n : ℕ) (v : Verdict) (a : Placed) (h' : Held) : Type 0 where
-  pub answer : a ≡ IsPlaced (number_in n) v (news_at (with_string (frame_in h) n) (number_in n))
+pub record StoresIn (h : Held) (n : ℕ) (v : Verdict) (a : Result (ℕ × Verdict × News) Refusal) (h' : Held) : Type 0 where
+  pub answer : a ≡ Ok (number_in n, v, news_at (with_string (frame_in h) n) (number_in n))
   pub left : h' ≡ stored h n
 
 -- ---- the fate of such a string in numbers: the number that says no; 0 0, already held; 0 1, new, with the start of its frame and the mask that this has
-abbrev pub fate_paper : Fate → List ℕ
-fate_paper (No r) = refusal_paper r
-fate_paper Here = 0 ∷ 0 ∷ []
-fate_paper (New start mask) = 0 ∷ 1 ∷ start ∷ mask ∷ []
+abbrev pub fate_paper : Result Fate Refusal → List ℕ
+fate_paper (Err r) = refusal_paper r
+fate_paper (Ok Here) = 0 ∷ 0 ∷ []
+fate_paper (Ok (New start mask)) = 0 ∷ 1 ∷ start ∷ mask ∷ []
 
 abbrev pub fate_told : Held → ℕ → ℕ → List ℕ
 fate_told h epoch n =
     pick (is_here (frame_in h) epoch n) (0 ∷ []) (1 ∷ start_of epoch n ∷ pick (is_of_frame (frame_in h) (start_of epoch n)) h.mask 0 ∷ [])
 
-abbrev pub FateBy : List Test → Held → ℕ → ℕ → Fate → Type 0
+abbrev pub FateBy : List Test → Held → ℕ → ℕ → Result Fate Refusal → Type 0
 FateBy tests h epoch n r = fate_paper r ≡ answer_of tests (fate_told h epoch n)
 
 -- in the held frame, whose start is the string's
-abbrev pub fate_within : Held → ℕ → Fate
+abbrev pub fate_within : Held → ℕ → Result Fate Refusal
 fate_within h n =
     pick (is_present h.mask (number_in n))
-    (pick (eqb (data_in (string_in h.bytes (number_in n))) (data_in n)) Here (No Conflict))
-    (New h.start h.mask)
+    (pick (eqb (data_in (string_in h.bytes (number_in n))) (data_in n)) (Ok Here) (Err Conflict))
+    (Ok (New h.start h.mask))
 
 -- ---- an offer of bytes of any length: 2 to 4 by what is heard of them, then 5 to 9 of the string as the check leaves it
 abbrev pub offer_tests : Frame → ℕ → List ℕ → List Test
 offer_tests f epoch s = hear_tests s ++ place_tests f epoch (whole_of s)
 
 -- what is said of its plain string, and what is held after it
-abbrev pub OffersApart : Held → ℕ → List ℕ → Placed → Held → Type 0
+abbrev pub OffersApart : Held → ℕ → List ℕ → Result (ℕ × Verdict × News) Refusal → Held → Type 0
 OffersApart h epoch s a h' = PlacesBy (offer_tests (frame_in h) epoch s) h epoch (whole_of s) (verdict_in s) a h'
 
 -- ---- the row that it leaves
@@ -146,18 +148,18 @@ unfoldable pub Offers : Row → ℕ → List ℕ → Offered → Type 0
 Offers row epoch s r = Leaves (answer_of (offer_tests (frame_of row) epoch s) (told_to (frame_of row) epoch s)) (offered_row row epoch s) r
 
 -- what an answer counts as
-abbrev pub outcome_of : Answer → Outcome
-outcome_of (Taken m v w p) = TAKEN v
-outcome_of (Refused r) = REFUSED (get_or (refusal_paper r) 0 0)
+abbrev pub outcome_of : Result TakenString Refusal → Outcome
+outcome_of (Ok said) = TAKEN said.verdict
+outcome_of (Err r) = REFUSED (get_or (refusal_paper r) 0 0)
 
 -- ---- "a refused string changes nothing but its channel's tallies of strings offered and refused", and "its own cause's tally too": that of the number
 -- which it was answered
-abbrev pub is_taken : Answer → Bool
-is_taken (Taken m v w p) = true
-is_taken (Refused r) = false
+abbrev pub is_taken : Result TakenString Refusal → Bool
+is_taken (Ok said) = true
+is_taken (Err r) = false
 
 -- the number that an answer begins with: 0, or the one that says no
-abbrev pub number_said : Answer → ℕ
+abbrev pub number_said : Result TakenString Refusal → ℕ
 number_said a = get_or (answer_paper a) 0 0
 
 pub record OnlyCounted (number : ℕ) (row row' : Row) : Type 0 where
@@ -174,7 +176,7 @@ pub record OnlyCounted (number : ℕ) (row row' : Row) : Type 0 where
   pub others : (k : ℕ) → is_one_of causes k ≡ true → (k ≡ number → ⊥) → cause_of row'.tallies k ≡ cause_of row.tallies k
 
 -- ---- a taken one "adds to offered and to clean or repaired by the verdict", and to no cause
-pub record TakenCounted (a : Answer) (t t' : Tallies) : Type 0 where
+pub record TakenCounted (a : Result TakenString Refusal) (t t' : Tallies) : Type 0 where
   pub offered : t'.offered ≡ one_more t.offered
   pub clean : t'.clean ≡ one_more_if (is_clean (outcome_of a)) t.clean
   pub repaired : t'.repaired ≡ one_more_if (is_repaired (outcome_of a)) t.repaired
@@ -188,9 +190,9 @@ is_new Kept = true
 is_new RecordBuilt = true
 is_new RecordOutOfRange = true
 
-abbrev pub is_stored : Answer → Bool
-is_stored (Taken m v w p) = is_new w
-is_stored (Refused r) = false
+abbrev pub is_stored : Result TakenString Refusal → Bool
+is_stored (Ok said) = is_new said.news
+is_stored (Err r) = false
 
 -- so where it is taken, and its string was not held
 abbrev pub stores_it : Frame → ℕ → List ℕ → Bool

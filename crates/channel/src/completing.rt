@@ -4,8 +4,9 @@ ghost use Rattle.channel.specs.Frame.{news_at};
 ghost use Rattle.channel.specs.Row.{framed, is_built};
 ghost use Rattle.channel.specs.Offers.{tells_record};
 
-use crate::{News, Placed};
+use crate::News;
 use immediate::are_good;
+use strings::{Refusal, Verdict};
 
 // The news of string m, newly among the strings of a mask.
 pub fn news_at(mask: u16, all: &[u8], m: u8) -> News
@@ -26,22 +27,17 @@ pub fn news_at(mask: u16, all: &[u8], m: u8) -> News
 }
 
 // Whether it is told of a plain string that a record is built.
-pub fn is_built(a: Placed) -> bool
+pub fn is_built(a: Result<(u8, Verdict, News), Refusal>) -> bool
     ensures { result ≡ tells_record a }
 {
     match a {
-        Placed::Refused(_) => false,
-        Placed::Taken(_, _, news) => is_record(news),
+        Err(_) => false,
+        Ok((_, _, news)) => is_record(news),
     }
 }
 
 fn is_record(news: News) -> bool
     ensures { result ≡ is_built news }
 {
-    match news {
-        News::AlreadyHeld => false,
-        News::Kept => false,
-        News::RecordBuilt => true,
-        News::RecordOutOfRange => false,
-    }
+    matches!(news, News::RecordBuilt)
 }

@@ -34,27 +34,20 @@ pub struct Head {
     pub present: u16,
 }
 
-// What becomes of a checked string: refused; held already; or new in the frame of a start, with the
-// mask of the strings that this frame has.
+// What becomes of a checked string that is not refused: it is held already, or new in the frame of a
+// start, with the mask of the strings that this frame has. No Option, since None would not say held.
 #[derive(Clone, Copy)]
 pub enum Fate {
-    Refused(Refusal),
     Held,
     New(u32, u16),
 }
 
-// What is said of a plain string: m, the check's verdict and the news; or why not.
-#[derive(Clone, Copy)]
-pub enum Placed {
-    Taken(u8, Verdict, News),
-    Refused(Refusal),
-}
-
-// What is said of a string, and the numbers of the row after it.
+// What is said of a plain string, m, the check's verdict and the news, or why not; and the numbers of the
+// row after it.
 #[derive(Clone, Copy)]
 pub struct Moved {
     pub head: Head,
-    pub answer: Placed,
+    pub answer: Result<(u8, Verdict, News), Refusal>,
 }
 
 // What a taken string brought.
@@ -66,17 +59,18 @@ pub enum News {
     RecordOutOfRange,
 }
 
-// The answer to an offer: m, the check's verdict, the news, and the polarity of the symbols; or why
-// not.
+// What is told of a string that is taken: m, the check's verdict, the news, and the polarity of the symbols.
 #[derive(Clone, Copy)]
-pub enum Answer {
-    Taken(u8, Verdict, News, Polarity),
-    Refused(Refusal),
+pub struct TakenString {
+    pub m: u8,
+    pub verdict: Verdict,
+    pub news: News,
+    pub polarity: Polarity,
 }
 
-// An offer's answer, and the row after it.
+// An offer's answer, or why not, and the row after it.
 #[derive(Clone, Copy)]
 pub struct Offered {
     pub row: Row,
-    pub answer: Answer,
+    pub answer: Result<TakenString, Refusal>,
 }

@@ -8,11 +8,11 @@ ghost use Rattle.channel.specs.Offers.{OffersApart, Offers, outcome_of, is_place
 
 use crate::completing::is_built;
 use crate::placing::place;
-use crate::{Answer, Head, Moved, News, Offered, Placed, Row};
+use crate::{Head, Moved, News, Offered, Row, TakenString};
 use hearing::hear;
 use immediate::first_four;
 use relative::polarity_in;
-use strings::Checked;
+use strings::{Refusal, Verdict};
 use tallies::{Tallies, count_refused, count_taken};
 
 // An offer to a row: SHAPE, DAMAGED, IDLE and 5 to 9, and the row after it, counted by the answer.
@@ -42,13 +42,18 @@ pub fn offer(mut row: Row, epoch: u32, s: &[u8]) -> Offered
 
 // The answer to a plain string, told with the polarity of the symbols that it was read from: what
 // placed it knows nothing of that.
-fn told_with(a: Placed, s: &[u8]) -> Answer
+fn told_with(a: Result<(u8, Verdict, News), Refusal>, s: &[u8]) -> Result<TakenString, Refusal>
     requires { is_placed a ≡ true → length s.now ≡ 11 }
     ensures { result ≡ told_with a (polarity_of (number_of s.now)) }
 {
     match a {
-        Placed::Refused(why) => Answer::Refused(why),
-        Placed::Taken(m, v, news) => Answer::Taken(m, v, news, polarity_in(s)),
+        Err(why) => Err(why),
+        Ok((m, v, news)) => Ok(TakenString {
+            m,
+            verdict: v,
+            news,
+            polarity: polarity_in(s),
+        }),
     }
 }
 
@@ -60,41 +65,36 @@ fn offer_apart(head: Head, all: &mut [u8], epoch: u32, s: &[u8]) -> Moved
     let mut whole = [0u8; 11];
     let heard = hear(s, &mut whole);
     match heard {
-        Checked::Refused(why) => Moved {
+        Err(why) => Moved {
             head,
-            answer: Placed::Refused(why),
+            answer: Err(why),
         },
-        Checked::Taken(v) => place(head, all, epoch, &whole, v),
+        Ok(v) => place(head, all, epoch, &whole, v),
     }
 }
 
 // The tallies, moved by what an answer counts as.
-fn count(t: Tallies, a: Answer) -> Tallies
+fn count(t: Tallies, a: Result<TakenString, Refusal>) -> Tallies
     ensures { result ≡ after_offer (outcome_of a) t }
 {
     match a {
-        Answer::Refused(why) => count_refused(t, why),
-        Answer::Taken(_, v, _, _) => count_taken(t, v),
+        Err(why) => count_refused(t, why),
+        Ok(taken) => count_taken(t, taken.verdict),
     }
 }
 
 // Whether an offer stored a string: one already held is stored no second time.
-pub fn is_stored(a: Answer) -> bool
+pub fn is_stored(a: Result<TakenString, Refusal>) -> bool
     ensures { result ≡ is_stored a }
 {
     match a {
-        Answer::Refused(_) => false,
-        Answer::Taken(_, _, news, _) => is_new(news),
+        Err(_) => false,
+        Ok(taken) => is_new(taken.news),
     }
 }
 
 fn is_new(news: News) -> bool
     ensures { result ≡ is_new news }
 {
-    match news {
-        News::AlreadyHeld => false,
-        News::Kept => true,
-        News::RecordBuilt => true,
-        News::RecordOutOfRange => true,
-    }
+    !matches!(news, News::AlreadyHeld)
 }

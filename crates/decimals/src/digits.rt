@@ -6,10 +6,8 @@ ghost use Rattle.decimals.specs.Decimal.{digits_of};
 pub fn put_digits(out: &mut [u8], n: u64)
     ensures { out.new ≡ digits_of (length out.old) n }
 {
-    let mut i = out.len();
     let mut m = n;
-    while i > 0 {
-        i -= 1;
+    for i in (0..out.len()).rev() {
         out[i] = 48 + (m % 10) as u8;
         m = m / 10;
     }

@@ -14,7 +14,8 @@ pub fn put_decimal(out: &mut [u8], raw: i32, p: u32)
     put_signed(out, raw < 0, magnitude(raw), p);
 }
 
-// -raw / 2 ^ p into the whole of out, also where an i32 does not hold -raw.
+// -raw / 2 ^ p into the whole of out, also where an i32 does not hold -raw: so the other function cannot be
+// handed it.
 pub fn put_negated(out: &mut [u8], raw: i32, p: u32)
     requires out_len { length out.old ≡ 19 }
     requires p_bound { p ≤ 44 }

@@ -32,8 +32,8 @@ pub fn put_numbers(text: &mut [u8], at: usize, numbers: &[u64]) -> usize
 {
     let last = numbers.len() - 1;
     let mut end = at;
-    for i in 0..last {
-        end = put_number(text, end, numbers[i], b' ');
+    for n in &numbers[..last] {
+        end = put_number(text, end, *n, b' ');
     }
     put_number(text, end, numbers[last], b'\n')
 }

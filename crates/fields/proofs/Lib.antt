@@ -7,3 +7,4 @@ pub mod EndToEnd
 pub mod OnceOnly
 pub mod Near
 pub mod Laws
+pub mod Cut

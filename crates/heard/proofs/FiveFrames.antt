@@ -10,10 +10,11 @@ use borrow.Author.Tests.{eq-eqb, eqb-true, eqb-false, le-leb, leb-true}
 use lib.Arith.{lt_of_le-ne}
 use lib.Dec.{eqb, leb}
 use Rattle.strings.specs.Pick.{pick, is_one_of}
-use Rattle.book.specs.declared.Shown.TheVariants.{Nothing, At}
+use Rattle.std.specs.Prelude.{Some, None}
 use Rattle.book.specs.Entry.{Three, entry_of, meaning}
 use Rattle.book.specs.Shows.{slot_in, shown_by}
 use Rattle.book.proofs.Order.{meaning_entry}
+use Rattle.book.proofs.Joins.{shown_parts}
 use Rattle.channel.specs.History.{Call, Offer, held_after, said_to}
 use Rattle.shows.specs.Shows.{frame_by, shown_at}
 use Rattle.superframe.specs.Table41.{slot_of_pair, frame_of_slot, pair_of_slot}
@@ -133,15 +134,15 @@ module _ (string : ℕ → ℕ) (sky : Superframe string) where
 
   -- ---- what the strings of a slot show
   slot_shows : (k : ℕ) → 1 ≤ k → k ≤ 24
-      → shown_by (in_frame string (frame_of_slot k) 5) (in_frame string (frame_of_slot k) (pair_of_slot k)) (in_frame string (frame_of_slot k) (pair_of_slot k + 1)) ≡ At k (entry_of (entry_in string k))
+      → shown_by (in_frame string (frame_of_slot k) 5) (in_frame string (frame_of_slot k) (pair_of_slot k)) (in_frame string (frame_of_slot k) (pair_of_slot k + 1)) ≡ Some (k, entry_of (entry_in string k))
   slot_shows k a b =
       let l : frame_of_slot k < 5 = omega arith in
       good_shows (in_frame string (frame_of_slot k) 5) (in_frame string (frame_of_slot k) (pair_of_slot k)) (in_frame string (frame_of_slot k) (pair_of_slot k + 1))
       (sky.five (frame_of_slot k) l) (sky.stated (frame_of_slot k) l) (sky.even k a b) (sky.odd k a b)
-      ∙ ap (λ (j : ℕ). At j (entry_of (entry_in string k))) (sky.slot k a b)
+      ∙ ap (λ (j : ℕ). Some (j, entry_of (entry_in string k))) (sky.slot k a b)
 
   pair_shows : (g : ℕ) → g < 5 → (p : ℕ) → is_one_of pairs p ≡ true → (p ≡ 14 → g < 4)
-      → shown_by (in_frame string g 5) (in_frame string g p) (in_frame string g (p + 1)) ≡ At (slot_of_pair g p) (entry_of (entry_in string (slot_of_pair g p)))
+      → shown_by (in_frame string g 5) (in_frame string g p) (in_frame string g (p + 1)) ≡ Some (slot_of_pair g p, entry_of (entry_in string (slot_of_pair g p)))
   pair_shows g l p m h =
       let only = table_4_1.only g p (l, (m, h)) in
       let slot = table_4_1.slot g p (l, (m, h)) in
@@ -154,16 +155,15 @@ module _ (string : ℕ → ℕ) (sky : Superframe string) where
       omega (arith, leb-true (g + 1) 4 w)
 
   -- the frame that has the first k of frame g shows only entries of slots
-  first_tells : (g : ℕ) → g < 5 → (j p k : ℕ) (u : Three) → is_one_of pairs p ≡ true → shown_first (in_frame string g) j p ≡ At k (entry_of u) → u ≡ entry_in string k
+  first_tells : (g : ℕ) → g < 5 → (j p k : ℕ) (u : Three) → is_one_of pairs p ≡ true → shown_first (in_frame string g) j p ≡ Some (k, entry_of u) → u ≡ entry_in string k
   first_tells g l j p k u m = by (leb (p + 1) j) (is_pair_of (in_frame string g) p) refl
     where
       by : (b c : Bool) → is_pair_of (in_frame string g) p ≡ c
-          → pick (b && c) (shown_by (in_frame string g 5) (in_frame string g p) (in_frame string g (p + 1))) Nothing ≡ At k (entry_of u) → u ≡ entry_in string k
+          → pick (b && c) (shown_by (in_frame string g 5) (in_frame string g p) (in_frame string g (p + 1))) None ≡ Some (k, entry_of u) → u ≡ entry_in string k
       by true true q w =
           let a = sym (pair_shows g l p m (fifth g l p q)) ∙ w in
-          let s : slot_of_pair g p ≡ k = cc in
-          let t : entry_of (entry_in string (slot_of_pair g p)) ≡ entry_of u = cc in
-          sym (meaning_entry u) ∙ ap meaning (sym t) ∙ meaning_entry (entry_in string (slot_of_pair g p)) ∙ ap (entry_in string) s
+          let s = shown_parts a in
+          sym (meaning_entry u) ∙ ap meaning (sym s.1) ∙ meaning_entry (entry_in string (slot_of_pair g p)) ∙ ap (entry_in string) s.0
       by true false q w = let z : ◌≡◌ {A = ℕ} 0 1 = cc in absurd (omega arith)
       by false c q w = let z : ◌≡◌ {A = ℕ} 0 1 = cc in absurd (omega arith)
 
@@ -182,7 +182,7 @@ module _ (string : ℕ → ℕ) (sky : Superframe string) where
     fresh_ready = inl refl
 
     -- EVERY MOMENT SHOWS ONLY THE ENTRIES OF THE SKY
-    pub shows_only : (n : ℕ) → n ≤ 75 → (p k : ℕ) (u : Three) → is_one_of pairs p ≡ true → shown_at (held_after (in_order string e n [])) p ≡ At k (entry_of u)
+    pub shows_only : (n : ℕ) → n ≤ 75 → (p k : ℕ) (u : Three) → is_one_of pairs p ≡ true → shown_at (held_after (in_order string e n [])) p ≡ Some (k, entry_of u)
         → u ≡ entry_in string k
     unfolding offers held_after
     shows_only zero l p k u m q = let z : ◌≡◌ {A = ℕ} 0 1 = cc in absurd (omega arith)
@@ -195,7 +195,7 @@ module _ (string : ℕ → ℕ) (sky : Superframe string) where
 
     -- AND EACH OF THEM IS SHOWN
     pub shows_each : (k : ℕ) → 1 ≤ k → k ≤ 24
-        → shown_at (held_after (in_order string e (15 * frame_of_slot k + 15) [])) (pair_of_slot k) ≡ At k (entry_of (entry_in string k))
+        → shown_at (held_after (in_order string e (15 * frame_of_slot k + 15) [])) (pair_of_slot k) ≡ Some (k, entry_of (entry_in string k))
     shows_each k a b =
         let l : frame_of_slot k < 5 = omega arith in
         first_shows (in_frame string (frame_of_slot k)) (e + 15 * frame_of_slot k) 15 _ (first_at e [] fresh_ready (frame_of_slot k) l 15 (omega arith) (omega arith)) (pair_of_slot k) (omega arith)

@@ -9,9 +9,9 @@ use native.Mathlib.Omega.{arith}
 use borrow.Author.Tests.{le-leb, leb-true, leb-false}
 use lib.Dec.{leb}
 use Rattle.strings.specs.Pick.{pick}
+use Rattle.book.specs.declared.Entry.{Entry}
+use Rattle.std.specs.Prelude.{Option, Some, None}
 use Rattle.records.specs.declared.kinds.Kind.TheVariants.{Five, Even, Odd}
-use Rattle.book.specs.declared.Shown.{Shown}
-use Rattle.book.specs.declared.Shown.TheVariants.{Nothing, At}
 use Rattle.book.specs.Entry.{Three, entry_of, meaning, blank}
 use Rattle.words.specs.Good.{is_good}
 use Rattle.book.specs.Shows.{four_years, slot_in, is_shown, three_of, shown_by}
@@ -28,12 +28,12 @@ use Rattle.heard.specs.Heard.{HasFirst, is_pair_of, shown_first}
 pub first_shows : (string : ℕ → ℕ) (e k : ℕ) (f : Frame) → HasFirst string e k f → (p : ℕ) → 6 ≤ p → shown_at f p ≡ shown_first string k p
 first_shows string e k f i p l = by (leb (p + 1) k) refl
   where
-    none : (a b c : Bool) (x : Shown) → pick ((a && (b && false)) && c) x Nothing ≡ Nothing
+    none : (a b c : Bool) (x : Option (ℕ × Entry)) → pick ((a && (b && false)) && c) x None ≡ None
     none true true c x = refl
     none true false c x = refl
     none false b c x = refl
 
-    by : (b : Bool) → leb (p + 1) k ≡ b → shown_at f p ≡ pick (b && is_pair_of string p) (shown_by (string 5) (string p) (string (p + 1))) Nothing
+    by : (b : Bool) → leb (p + 1) k ≡ b → shown_at f p ≡ pick (b && is_pair_of string p) (shown_by (string 5) (string p) (string (p + 1))) None
     by true q =
         let u = leb-true (p + 1) k q in
         rw (
@@ -52,7 +52,7 @@ first_shows string e k f i p l = by (leb (p + 1) k) refl
 
 -- with words in range
 pub good_shows : (five even odd : ℕ) → is_good Five five ≡ true → 1 ≤ four_years five → is_good Even even ≡ true → is_good Odd odd ≡ true
-    → shown_by five even odd ≡ At (slot_in even) (entry_of (three_of five even odd))
+    → shown_by five even odd ≡ Some (slot_in even, entry_of (three_of five even odd))
 unfolding shown_by is_shown
 good_shows five even odd a b c d = rw (a, le-leb 1 (four_years five) b, c, d)
 

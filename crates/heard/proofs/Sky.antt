@@ -8,15 +8,14 @@ use native.Mathlib.Omega.{arith}
 use borrow.Author.Tests.{eq-eqb, eqb-true, eqb-false}
 use lib.Dec.{eqb}
 use Rattle.strings.specs.Pick.{pick}
-use Rattle.book.specs.declared.Shown.TheVariants.{At}
+use Rattle.std.specs.Prelude.{Some}
 use Rattle.book.specs.Entry.{Three, entry_of}
 use Rattle.book.specs.Book.{in_slot}
 use Rattle.channel.specs.History.{Call as OnChannel, Offer as OfferIt, Reset as ResetIt, held_after, said_to, of_latest, record_after, record_start, makes_record, four_of, Runs as ChannelRuns, fresh as fresh_row, offering as offering-it, resetting as resetting-it}
 use Rattle.strings.specs.declared.Verdict.TheVariants.{Clean}
 use Rattle.channel.specs.declared.Row.{Row}
 use Rattle.channel.specs.declared.News.TheVariants.{Kept, RecordBuilt}
-use Rattle.channel.specs.declared.Answer.TheVariants.{Taken}
-use Rattle.channel.specs.Offers.{news_number}
+use Rattle.channel.specs.Offers.{news_number, took}
 use Rattle.channel.proofs.Answers.{answer_same}
 use Rattle.relative.specs.declared.Polarity.TheVariants.{Upright}
 use Rattle.immediate.specs.Kept.{four_good, record_in}
@@ -114,7 +113,7 @@ module _ (string : ℕ → ℕ) (sky : Superframe string) (card c e : ℕ) (serv
   unfolding held_after
   shown_only k u w = by (eqb w.channel c) refl
     where
-      none : (m : List OnChannel) → Part m [] → shown_at (held_after m) w.pair ≡ At k (entry_of u) → ⊥
+      none : (m : List OnChannel) → Part m [] → shown_at (held_after m) w.pair ≡ Some (k, entry_of u) → ⊥
       none m (whole cs) q = let z : ◌≡◌ {A = ℕ} 0 1 = cc in omega arith
 
       by : (t : Bool) → eqb w.channel c ≡ t → u ≡ entry_in string k
@@ -194,7 +193,7 @@ module _ (string : ℕ → ℕ) (sky : Superframe string) (card c e : ℕ) (serv
   sky_taken i l st run r o =
       let s = relative_bytes (string (suc i)) in
       let cs = sky_calls string card c e i in
-      answer_same r.answer (Taken (i % 15 + 1) Clean (news_of_string (i % 15 + 1)) Upright)
+      answer_same r.answer (took (i % 15 + 1) Clean (news_of_string (i % 15 + 1)) Upright)
       ((answered cs st run).offers card c (e + i) s r o
       ∙ ap (λ (b : Bool). pick b (said_on (OfferIt (e + i) s) (calls_on c cs)) (shut_says card c)) served
       ∙ ap (λ (ds : List OnChannel). said_to (held_after ds) (e + i) s) (calls_own card c served (in_order string e i []))

@@ -7,11 +7,11 @@ use Prim.Native.Nat.{ℕ}
 use borrow.Author.Tests.{eq-eqb}
 use lib.ListN.{length, replicate, length-replicate}
 use Rattle.records.specs.Records.{list_of}
+use Rattle.std.specs.Prelude.{Ok}
 use Rattle.layout.specs.Layout.{layout}
 use Rattle.words.specs.Values.{first_bad}
 use Rattle.superframe.specs.Sky.{record_in}
 use Rattle.superframe.specs.Refused.{wrong_slot, string_bad, lowest_bad}
-use Rattle.sky.specs.declared.Made.TheVariants.{Done}
 use Rattle.sky.specs.Line.{sky_lines}
 use Rattle.sky.specs.Calls.{MakesSky}
 use Rattle.station.specs.History.{station_of}
@@ -28,7 +28,7 @@ none_bad : lowest_bad some_sky 75 ≡ 0
 unfolding some_sky record_in string_bad lowest_bad first_bad layout list_of
 none_bad = refl
 
-is_made : (out : List ℕ) → length out ≡ 15000 → MakesSky some_sky out Done (sky_lines some_sky)
+is_made : (out : List ℕ) → length out ≡ 15000 → MakesSky some_sky out (Ok tt) (sky_lines some_sky)
 unfolding MakesSky
 is_made out e =
     let l = eq-eqb (length out) 15000 e in

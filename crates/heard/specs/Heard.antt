@@ -1,13 +1,13 @@
 -- Strings of one satellite offered in order, one at each epoch, and what they leave: one frame on a channel, then the five frames of a superframe on a
 -- channel of a fresh station. A string is given as a number; nothing here says how it was made.
 -- Assumes nothing.
-use Rattle.std.specs.Prelude.{ℕ, zero, suc, ◌+◌, ◌-◌, ◌*◌, ◌%◌, ◌^◌, ◌≤◌, ◌<◌, Bool, true, false, not, ◌&&◌, ◌||◌, List, [], ◌∷◌, map, ◌⊎◌, ◌≡◌, eqb, leb, length}
+use Rattle.std.specs.Prelude.{ℕ, zero, suc, ◌+◌, ◌-◌, ◌*◌, ◌%◌, ◌^◌, ◌≤◌, ◌<◌, Bool, true, false, not, ◌&&◌, ◌||◌, List, [], ◌∷◌, map, ◌⊎◌, ◌≡◌, eqb, leb, length, Option, None}
+use Rattle.channel.specs.Offers.{took}
+use Rattle.book.specs.declared.Entry.{Entry}
 use Rattle.strings.specs.Pick.{pick}
 use Rattle.strings.specs.Hamming.{Encoded}
 use Rattle.records.specs.declared.kinds.Kind.TheVariants.{Five, Even, Odd}
 use Rattle.words.specs.Calls.{number_in}
-use Rattle.book.specs.declared.Shown.{Shown}
-use Rattle.book.specs.declared.Shown.TheVariants.{Nothing}
 use Rattle.book.specs.Entry.{Three, entry_of}
 use Rattle.words.specs.Good.{is_good}
 use Rattle.book.specs.Shows.{four_years, slot_in, three_of, shown_by}
@@ -16,7 +16,6 @@ use Rattle.strings.specs.declared.Verdict.TheVariants.{Clean}
 use Rattle.relative.specs.declared.Polarity.TheVariants.{Upright}
 use Rattle.channel.specs.declared.News.{News}
 use Rattle.channel.specs.declared.News.TheVariants.{Kept, RecordBuilt}
-use Rattle.channel.specs.declared.Answer.TheVariants.{Taken}
 use Rattle.immediate.specs.Kept.{four_good, record_in}
 use Rattle.channel.specs.Row.{empty_row}
 use Rattle.channel.specs.Frame.{Frame}
@@ -80,8 +79,8 @@ abbrev pub is_pair_of : (ℕ → ℕ) → ℕ → Bool
 is_pair_of string p = not (eqb p 14) || (leb 1 (frame_by (slot_in (string 6))) && leb (frame_by (slot_in (string 6))) 4)
 
 -- the pair p of a frame that has the first k: both halves and string 5 are there once p+1 is
-abbrev pub shown_first : (ℕ → ℕ) → ℕ → ℕ → Shown
-shown_first string k p = pick (leb (p + 1) k && is_pair_of string p) (shown_by (string 5) (string p) (string (p + 1))) Nothing
+abbrev pub shown_first : (ℕ → ℕ) → ℕ → ℕ → Option (ℕ × Entry)
+shown_first string k p = pick (leb (p + 1) k && is_pair_of string p) (shown_by (string 5) (string p) (string (p + 1))) None
 
 -- ---- five frames: Table 4.1
 -- string m of frame g, 0..4, of 75 strings
@@ -123,7 +122,7 @@ abbrev pub SkyTaken : (ℕ → ℕ) → ℕ → ℕ → ℕ → Type 0
 SkyTaken string card c e =
     (i : ℕ) → i < 75 → (st : Station) → Runs (sky_calls string card c e i) st
     → (r : Stepped) → OffersTo st card c (e + i) (relative_bytes (string (suc i))) r
-    → r.answer ≡ Taken (i % 15 + 1) Clean (news_of_string (i % 15 + 1)) Upright
+    → r.answer ≡ took (i % 15 + 1) Clean (news_of_string (i % 15 + 1)) Upright
 
 -- the station that they leave: the book has the 24 entries, the channel's row holds frame 5, its four strings and their start, every other row is as fresh
 pub record SkyHeld (string : ℕ → ℕ) (c e : ℕ) (st : Station) : Type 0 where

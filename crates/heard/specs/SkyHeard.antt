@@ -2,7 +2,8 @@
 -- 75 strings in relative form at 75 successive epochs, on one channel of a fresh station, leaves a book with exactly the 24 entries." The proof stands
 -- in `proofs/SkyHeard.antt`.
 -- Assumes nothing.
-use Rattle.std.specs.Prelude.{ℕ, suc, ◌+◌, ◌%◌, ◌^◌, ◌≤◌, ◌<◌, true, List, [], map, ◌≡◌, pos, nat_abs, length}
+use Rattle.std.specs.Prelude.{ℕ, suc, ◌+◌, ◌%◌, ◌^◌, ◌≤◌, ◌<◌, true, List, [], map, ◌≡◌, pos, nat_abs, length, Ok}
+use Rattle.channel.specs.Offers.{took}
 use Rattle.strings.specs.declared.Verdict.TheVariants.{Clean}
 use Rattle.relative.specs.declared.Polarity.TheVariants.{Upright}
 use Rattle.words.specs.Immediate.{immediate_of}
@@ -10,11 +11,9 @@ use Rattle.book.specs.Entry.{meaning, even_words, odd_words}
 use Rattle.book.specs.Shows.{day_of}
 use Rattle.book.specs.Book.{in_slot}
 use Rattle.immediate.specs.Kept.{has_record}
-use Rattle.channel.specs.declared.Answer.TheVariants.{Taken}
 use Rattle.channel.specs.Row.{empty_row}
 use Rattle.superframe.specs.declared.Sky.{Sky}
 use Rattle.superframe.specs.Sky.{with_l, entry_at}
-use Rattle.sky.specs.declared.Made.TheVariants.{Done}
 use Rattle.sky.specs.Line.{heard_in}
 use Rattle.sky.specs.Calls.{MakesSky}
 use Rattle.station.specs.declared.Station.{Station}
@@ -54,17 +53,17 @@ pub record SkyHeard (sky : Sky) (out : List ℕ) (card c e : ℕ) : Type 0 where
   -- each string is taken, clean, upright, with its own number; string 4 of each frame builds the record, every other is kept
   pub taken : (i : ℕ) → i < 75 → (st : Station) → Runs (line_calls out card c e i) st
       → (r : Stepped) → OffersTo st card c (e + i) (heard_in out (suc i)) r
-      → r.answer ≡ Taken (i % 15 + 1) Clean (news_of_string (i % 15 + 1)) Upright
+      → r.answer ≡ took (i % 15 + 1) Clean (news_of_string (i % 15 + 1)) Upright
   -- and what they leave
   pub leaves : (st : Station) → Runs (line_calls out card c e 75) st → SkyLeaves sky c e st
 
 -- THE STATEMENT: for all words that `make_sky` does not refuse, any channel with its own card, and any first epoch
 abbrev pub EverySky : Type 0
 EverySky =
-    (sky : Sky) (out out' : List ℕ) → MakesSky sky out Done out' → (card c e : ℕ) → is_served card c ≡ true → SkyHeard sky out' card c e
+    (sky : Sky) (out out' : List ℕ) → MakesSky sky out (Ok tt) out' → (card c e : ℕ) → is_served card c ≡ true → SkyHeard sky out' card c e
 
 -- as the code has it, whose epochs are below 2^32: the last of the 75 is e + 74
 abbrev pub EverySkyInCode : Type 0
 EverySkyInCode =
-    (sky : Sky) (out out' : List ℕ) → MakesSky sky out Done out'
+    (sky : Sky) (out out' : List ℕ) → MakesSky sky out (Ok tt) out'
     → (card c e : ℕ) → is_served card c ≡ true → e + 74 < 2 ^ 32 → SkyHeard sky out' card c e

@@ -1,7 +1,7 @@
 -- One sky, computed to some of its strings; and that it meets the premise of the theorem. Its day is 8766, l is 1 but in string 3 and 7 in the entries, where
 -- it is not looked at; tb is 1, B1 is -1, and entry k has nA k and omega k; every other word is 0.
 -- Assumes nothing.
-use Rattle.std.specs.Prelude.{ℕ, ◌+◌, ◌*◌, ◌^◌, true, List, map, ◌≡◌, refl, pos, negsuc, length}
+use Rattle.std.specs.Prelude.{ℕ, ◌+◌, ◌*◌, ◌^◌, true, List, map, ◌≡◌, refl, pos, negsuc, length, Ok}
 use Rattle.strings.specs.Number.{bytes_of_string}
 use Rattle.strings.specs.Hamming.{position, sum_c, sum_all, syndrome, sums_made, encode}
 use Rattle.strings.specs.Table413.{◌to◌}
@@ -14,7 +14,6 @@ use Rattle.channel.specs.Witness.{whole, one, six1}
 use Rattle.superframe.specs.declared.AlmanacWords.{AlmanacWords}
 use Rattle.superframe.specs.declared.Sky.{Sky}
 use Rattle.superframe.specs.Sky.{record_in, sky_string}
-use Rattle.sky.specs.declared.Made.TheVariants.{Done}
 use Rattle.sky.specs.Line.{relative_bytes, sky_lines}
 use Rattle.sky.specs.Calls.{MakesSky}
 use Rattle.station.specs.Station.{is_served}
@@ -79,5 +78,5 @@ witness =
 
 -- it is not refused, and a station that hears it holds it: one that makes the calls is there. Proved as `some_heard` in `proofs/SomeSky.antt`
 pub record SomeHeard : Type 0 where
-  pub made : (out : List ℕ) → length out ≡ 15000 → MakesSky some_sky out Done (sky_lines some_sky)
+  pub made : (out : List ℕ) → length out ≡ 15000 → MakesSky some_sky out (Ok tt) (sky_lines some_sky)
   pub holds : (card c e : ℕ) → is_served card c ≡ true → SkyLeaves some_sky c e (station_of (line_calls (sky_lines some_sky) card c e 75))

@@ -9,18 +9,14 @@ use lib.Dec.{eqb, lit<}
 use lib.ListN.{length}
 use borrow.Author.Tests.{eq-eqb, ne_eqb}
 use Rattle.strings.specs.declared.Refusal.{Refusal}
+use Rattle.strings.specs.declared.hamming.Damage.{Damage}
+use Rattle.std.specs.Prelude.{Result, Ok, Err}
 use Rattle.strings.specs.declared.Verdict.{Verdict}
-use Rattle.strings.specs.declared.Checked.{Checked}
-use Rattle.strings.specs.declared.Checked.TheVariants.{Taken, Refused as NotTaken}
-use Rattle.strings.specs.declared.hamming.Ruling.{Ruling}
-use Rattle.strings.specs.declared.hamming.Ruling.TheVariants.{Sound, Damaged as DAMAGED}
 use Rattle.strings.specs.Number.{number_of, misshapen, bytes_of_string}
 use Rattle.strings.specs.Hamming.{ruling, is_damaged}
 use Rattle.strings.specs.Numbers.{refusal_paper, verdict_paper, Test, test, first_of, place_of, said_by, answer_of, Answers}
 use Rattle.strings.specs.Calls.{Checks, verdict_told, sound_tests}
 use Rattle.relative.specs.declared.Polarity.{Polarity}
-use Rattle.relative.specs.declared.Decoded.{Decoded}
-use Rattle.relative.specs.declared.Decoded.TheVariants.{Read, Refused as NotRead}
 use Rattle.relative.specs.Polarity.{first_symbol, polarity_number}
 use Rattle.relative.specs.Calls.{decoded_paper, ReadsRelative}
 use Rattle.strings.proofs.Answer.{verdict_same, first_given, taken_made, not_taken}
@@ -34,9 +30,9 @@ use Rattle.strings.proofs.Value.{string_number_lem}
 use Rattle.hearing.specs.Hears.{verdict_of, plain_of, whole_of, verdict_in, hear_tests, Hears}
 
 -- ---- what the relative code says of any bytes
-module _ (s plain plain' : List ℕ) (c : Decoded) (room : length plain ≡ 11) (a : ReadsRelative s plain c plain') (out : List ℕ) where
+module _ (s plain plain' : List ℕ) (c : Result Polarity Refusal) (room : length plain ≡ 11) (a : ReadsRelative s plain c plain') (out : List ℕ) where
   -- it refuses, and nothing is written
-  pub hears_no : (q : Refusal) → c ≡ NotRead q → Hears s out (NotTaken q) out
+  pub hears_no : (q : Refusal) → c ≡ Err q → Hears s out (Err q) out
   unfolding Hears ReadsRelative
   hears_no q e = by (misshapen s) (rw (has_room_lem plain room) at (ap decoded_paper (sym e) ∙ a.answer))
     where
@@ -46,15 +42,15 @@ module _ (s plain plain' : List ℕ) (c : Decoded) (room : length plain ≡ 11) 
       by false e = absurd (not_taken q _ e)
 
   -- it reads the plain string, whichever way up it came: what the check says of that is heard
-  pub hears_on : (p : Polarity) → c ≡ Read p → (x : Checked) (out' : List ℕ) → length out ≡ 11 → Checks plain' out x out' → Hears s out x out'
+  pub hears_on : (p : Polarity) → c ≡ Ok p → (x : Result Verdict Refusal) (out' : List ℕ) → length out ≡ 11 → Checks plain' out x out' → Hears s out x out'
   unfolding Hears Checks ReadsRelative
   hears_on p e x out' room' b =
-      let done : ReadsRelative s plain (Read p) plain' = subst (λ (y : Decoded). ReadsRelative s plain y plain') e a in
+      let done : ReadsRelative s plain (Ok p) plain' = subst (λ (y : Result Polarity Refusal). ReadsRelative s plain y plain') e a in
       let is : plain' ≡ bytes_of_string (plain_of s) = taken_made (polarity_number p ∷ []) done in
       let small : plain_of s < 2 ^ 85 = omega (arith, read_lt (number_of s)) in
       let shape : misshapen plain' ≡ false = ap misshapen is ∙ string_shaped (plain_of s) small in
       let number : number_of plain' ≡ plain_of s = ap number_of is ∙ string_number_lem (plain_of s) small in
-      let clear : misshapen s ≡ false = unfit (misshapen s) ((reads_exactly s plain (Read p) plain' done).taken.0 refl 1 (lit< tt)) in
+      let clear : misshapen s ≡ false = unfit (misshapen s) ((reads_exactly s plain (Ok p) plain' done).taken.0 refl 1 (lit< tt)) in
       record {
         answer = rw clear (rw (has_room_lem out room', shape, number) at b.answer);
         output = rw clear (rw (has_room_lem out room', shape, number) at b.output);
@@ -62,7 +58,7 @@ module _ (s plain plain' : List ℕ) (c : Decoded) (room : length plain ≡ 11) 
 
 -- ---- what is refused
 -- one of the three tests fits
-pub heard_not : (s out out' : List ℕ) (q : Refusal) → Hears s out (NotTaken q) out' → eqb (first_of (hear_tests s)) 0 ≡ false
+pub heard_not : (s out out' : List ℕ) (q : Refusal) → Hears s out (Err q) out' → eqb (first_of (hear_tests s)) 0 ≡ false
 unfolding Hears
 heard_not s out out' q a = by (first_of (hear_tests s)) a.answer
   where
@@ -74,16 +70,16 @@ heard_not s out out' q a = by (first_of (hear_tests s)) a.answer
 pub whole_lt : (s : List ℕ) → whole_of s < 2 ^ 85
 whole_lt s = mended_lt (plain_of s) (omega (arith, read_lt (number_of s)))
 
-verdict_is : (x : Ruling) (v : Verdict) → is_damaged x ≡ false → verdict_paper v ≡ verdict_told x → v ≡ verdict_of x
-verdict_is (Sound w) v d e = verdict_same v w e
-verdict_is (DAMAGED y) v d e = absurd (true≢false d)
+verdict_is : (x : Result Verdict Damage) (v : Verdict) → is_damaged x ≡ false → verdict_paper v ≡ verdict_told x → v ≡ verdict_of x
+verdict_is (Ok w) v d e = verdict_same v w e
+verdict_is (Err y) v d e = absurd (true≢false d)
 
 -- the list without its first number
 rest : List ℕ → List ℕ
 rest [] = []
 rest (x ∷ l) = l
 
-module _ (s out out' : List ℕ) (v : Verdict) (a : Hears s out (Taken v) out') where
+module _ (s out out' : List ℕ) (v : Verdict) (a : Hears s out (Ok v) out') where
   none : first_of (hear_tests s) ≡ 0
   unfolding Hears
   none = first_given (hear_tests s) (verdict_told (ruling (plain_of s))) a.answer

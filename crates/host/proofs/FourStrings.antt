@@ -1,4 +1,4 @@
--- Four strings read one after the other (four-1 to four-4), and what the call of the immediate record promises from its parts: a length is wrong (lengths-refused),
+-- Four strings read one after the other (four_1 to four_4, all_four), and what the call of the immediate record promises from its parts: a length is wrong (lengths-refused),
 -- a string is refused (record-refused), the record is made (record-done).
 -- Assumes nothing.
 use mathlib.Core.Path.{◌≡◌, refl, sym, ap, ◌∙◌}
@@ -10,7 +10,11 @@ use lib.Dec.{eqb, lit≤}
 use lib.Ieee.{Float}
 use lib.IntN.{ℤ}
 use lib.ListN.{length}
-use Rattle.strings.specs.Numbers.{Test, test, first_of, place_of, answer_of}
+use Rattle.std.specs.Prelude.{Result, Ok, Err}
+use Rattle.std.proofs.lemmas.Result.{IfOk-at_ok}
+use Rattle.strings.specs.declared.Refusal.{Refusal}
+use Rattle.strings.specs.Numbers.{refusal_paper, Test, test, first_of, answer_of}
+use Rattle.strings.proofs.Answer.{first_given}
 use Rattle.records.specs.declared.kinds.Kind.{Kind}
 use Rattle.records.specs.declared.kinds.Kind.TheVariants.{One, Two, Three, Four}
 use Rattle.layout.specs.Layout.{layout}
@@ -19,30 +23,30 @@ use Rattle.words.specs.Calls.{read_tests}
 use Rattle.told.specs.Told.{packed}
 use Rattle.scaled.specs.Scaled.{scaled_of}
 use Rattle.scaled.specs.Units.{units, kind_at, unit_at}
-use Rattle.host.specs.declared.reading.ReadOut.{ReadOut}
-use Rattle.host.specs.declared.record.FourRead.{FourRead}
+use Rattle.host.specs.declared.record.FourValues.{FourValues}
 use Rattle.host.specs.Host.{left, four_tests, immediate_tests, record_words, record_floats, float_in, TellsImmediate}
-use Rattle.host.specs.Parts.{TellsValues, TellsFour, words_from, float_from, numbers_from}
-use Rattle.host.proofs.Sequence.{Alike, past_all, stop_at, alike_on, alike_told, told_zero, told_none, read_numbers, left_refused, left_done}
+use Rattle.host.specs.Parts.{read_paper, TellsValues, TellsFour, words_from, float_from, numbers_from}
+use Rattle.host.proofs.Sequence.{Alike, past_all, stop_at, alike_on, alike_said, alike_told, read_numbers, left_refused, left_done}
+use Rattle.host.proofs.Values.{refused_given}
 use Rattle.host.proofs.Floats.{raw_is}
 
 -- ---- one string
-module _ (s : List ℕ) (k : Kind) (r : ReadOut) (a : TellsValues (read_tests s k) (left s) k r) where
-  none_given : r.answer ≡ 0 → first_of (read_tests s k) ≡ 0
-  none_given e = told_zero (first_of (read_tests s k)) (place_of (read_tests s k)) (sym a.answer ∙ e)
-
-  one_given : (r.answer ≡ 0 → ⊥) → first_of (read_tests s k) ≡ 0 → ⊥
-  one_given h z = h (a.answer ∙ sym (told_none (first_of (read_tests s k)) (place_of (read_tests s k)) z))
+module _ (s : List ℕ) (k : Kind) (x : Result (List ℤ) Refusal) (a : TellsValues (read_tests s k) (left s) k x) where
+  said_yes : (v : List ℤ) → x ≡ Ok v → 0 ∷ [] ≡ answer_of (read_tests s k) []
+  said_yes v e = ap read_paper (sym e) ∙ a.answer
 
   -- it is read, and those after it answer; or it is refused, and they are not asked
-  past : (ts us : List Test) → Alike ts (read_tests s k ++ us) → r.answer ≡ 0 → Alike ts us
-  past ts us p e = alike_on ts (read_tests s k ++ us) us p (past_all (read_tests s k) us (read_numbers s k) (none_given e))
+  past : (ts us : List Test) → Alike ts (read_tests s k ++ us) → (v : List ℤ) → x ≡ Ok v → Alike ts us
+  past ts us p v e = alike_on ts (read_tests s k ++ us) us p (past_all (read_tests s k) us (read_numbers s k) (first_given (read_tests s k) [] (said_yes v e)))
 
-  stop : (ts us : List Test) → Alike ts (read_tests s k ++ us) → (r.answer ≡ 0 → ⊥) → Alike ts (read_tests s k)
-  stop ts us p h = alike_on ts (read_tests s k ++ us) (read_tests s k) p (stop_at (read_tests s k) us (one_given h))
+  said_no : (q : Refusal) → x ≡ Err q → refusal_paper q ≡ answer_of (read_tests s k) []
+  said_no q e = ap read_paper (sym e) ∙ a.answer
+
+  stop : (ts us : List Test) → Alike ts (read_tests s k ++ us) → (q : Refusal) → x ≡ Err q → Alike ts (read_tests s k)
+  stop ts us p q e = alike_on ts (read_tests s k ++ us) (read_tests s k) p (stop_at (read_tests s k) us (refused_given (read_tests s k) q (said_no q e)))
 
 -- ---- four strings
-module _ (one two three four : List ℕ) (r : FourRead) where
+module _ (one two three four : List ℕ) where
   abbrev all : List Test
   all = four_tests one two three four
 
@@ -55,46 +59,41 @@ module _ (one two three four : List ℕ) (r : FourRead) where
   abbrev last_3 : List Test
   last_3 = read_tests two Two ++ last_2
 
-  refused_by : (s : List ℕ) (k : Kind) (x : ReadOut) → TellsValues (read_tests s k) (left s) k x → (x.answer ≡ 0 → ⊥) → Alike all (read_tests s k)
-      → r.answer ≡ x.answer → TellsFour one two three four r
-  refused_by s k x a h p e =
-      record {
-        answer = e ∙ a.answer ∙ sym (alike_told all (read_tests s k) p);
-        values = λ z. absurd (one_given s k x a h (sym p.0 ∙ z));
-      }
+  refused_by : (s : List ℕ) (k : Kind) (x : Result (List ℤ) Refusal) → TellsValues (read_tests s k) (left s) k x → (q : Refusal) → x ≡ Err q
+      → Alike all (read_tests s k) → TellsFour one two three four (Err q)
+  refused_by s k x a q e p = record { answer = said_no s k x a q e ∙ sym (alike_said all (read_tests s k) p); values = tt }
 
-  module _ (x : ReadOut) (a : TellsValues (read_tests one One) (left one) One x) where
-    pub four_1 : (x.answer ≡ 0 → ⊥) → r.answer ≡ x.answer → TellsFour one two three four r
-    four_1 h e = refused_by one One x a h (stop one One x a all last_3 (refl, refl) h) e
+  module _ (x : Result (List ℤ) Refusal) (a : TellsValues (read_tests one One) (left one) One x) where
+    pub four_1 : (q : Refusal) → x ≡ Err q → TellsFour one two three four (Err q)
+    four_1 q e = refused_by one One x a q e (stop one One x a all last_3 (refl, refl) q e)
 
-    module _ (i : x.answer ≡ 0) (y : ReadOut) (b : TellsValues (read_tests two Two) (left two) Two y) where
+    module _ (v : List ℤ) (i : x ≡ Ok v) (y : Result (List ℤ) Refusal) (b : TellsValues (read_tests two Two) (left two) Two y) where
       after-1 : Alike all last_3
-      after-1 = past one One x a all last_3 (refl, refl) i
+      after-1 = past one One x a all last_3 (refl, refl) v i
 
-      pub four_2 : (y.answer ≡ 0 → ⊥) → r.answer ≡ y.answer → TellsFour one two three four r
-      four_2 h e = refused_by two Two y b h (stop two Two y b all last_2 after-1 h) e
+      pub four_2 : (q : Refusal) → y ≡ Err q → TellsFour one two three four (Err q)
+      four_2 q e = refused_by two Two y b q e (stop two Two y b all last_2 after-1 q e)
 
-      module _ (j : y.answer ≡ 0) (z : ReadOut) (c : TellsValues (read_tests three Three) (left three) Three z) where
+      module _ (v₂ : List ℤ) (j : y ≡ Ok v₂) (z : Result (List ℤ) Refusal) (c : TellsValues (read_tests three Three) (left three) Three z) where
         after-2 : Alike all last_2
-        after-2 = past two Two y b all last_2 after-1 j
+        after-2 = past two Two y b all last_2 after-1 v₂ j
 
-        pub four_3 : (z.answer ≡ 0 → ⊥) → r.answer ≡ z.answer → TellsFour one two three four r
-        four_3 h e = refused_by three Three z c h (stop three Three z c all last after-2 h) e
+        pub four_3 : (q : Refusal) → z ≡ Err q → TellsFour one two three four (Err q)
+        four_3 q e = refused_by three Three z c q e (stop three Three z c all last after-2 q e)
 
-        pub four_4 : z.answer ≡ 0 → (w : ReadOut) → TellsValues (read_tests four Four) (left four) Four w → r.answer ≡ w.answer → r.one ≡ x.values
-            → r.two ≡ y.values → r.three ≡ z.values → r.four ≡ w.values → TellsFour one two three four r
-        four_4 l w d e f₁ f₂ f₃ f₄ =
-            let p = past three Three z c all last after-2 l in
-            record {
-              answer = e ∙ d.answer ∙ sym (alike_told all last p);
-              values = λ q.
-                  record {
-                    first = f₁ ∙ a.values (none_given one One x a i);
-                    second = f₂ ∙ b.values (none_given two Two y b j);
-                    third = f₃ ∙ c.values (none_given three Three z c l);
-                    fourth = f₄ ∙ d.values (sym p.0 ∙ q);
-                  };
-            }
+        module _ (v₃ : List ℤ) (l : z ≡ Ok v₃) (w : Result (List ℤ) Refusal) (d : TellsValues (read_tests four Four) (left four) Four w) where
+          after-3 : Alike all last
+          after-3 = past three Three z c all last after-2 v₃ l
+
+          pub four_4 : (q : Refusal) → w ≡ Err q → TellsFour one two three four (Err q)
+          four_4 q e = refused_by four Four w d q e after-3
+
+          pub all_four : (v₄ : List ℤ) → w ≡ Ok v₄ → TellsFour one two three four (Ok (record { one = v; two = v₂; three = v₃; four = v₄ }))
+          all_four v₄ m =
+              record {
+                answer = said_yes four Four w d v₄ m ∙ sym (alike_said all last after-3);
+                values = record { first = IfOk-at_ok _ i a.values; second = IfOk-at_ok _ j b.values; third = IfOk-at_ok _ l c.values; fourth = IfOk-at_ok _ m d.values };
+              }
 
 -- ---- the words and the floats of the values
 words_are : (a b c d : ℕ)
@@ -169,23 +168,23 @@ module _ (one two three four : List ℕ) (words : List ℤ) (numbers : List Floa
   lengths_refused e =
       none_made 2 (test 2 true ∷ []) (not_long (eleven one) (eleven two) (eleven three) (eleven four) (four_tests one two three four) e) (λ z. omega arith) refl
 
-  module _ (r : FourRead) (e : lengths ≡ true) (a : TellsFour one two three four r) where
+  module _ (r : Result FourValues Refusal) (e : lengths ≡ true) (a : TellsFour one two three four r) where
     read_alike : Alike tests (four_tests one two three four)
     read_alike = long (eleven one) (eleven two) (eleven three) (eleven four) (four_tests one two three four) e
 
-    pub record_refused : (r.answer ≡ 0 → ⊥) → TellsImmediate one two three four words numbers r.answer words numbers
-    record_refused h =
-        none_made r.answer (four_tests one two three four) read_alike
-        (λ z. h (a.answer ∙ sym (told_none (first_of (four_tests one two three four)) (place_of (four_tests one two three four)) z))) a.answer
+    pub record_refused : (q : Refusal) (n : ℕ) → r ≡ Err q → n ≡ packed (refusal_paper q) → TellsImmediate one two three four words numbers n words numbers
+    record_refused q n f g =
+        let p : refusal_paper q ≡ answer_of (four_tests one two three four) [] = ap read_paper (sym f) ∙ a.answer in
+        none_made n (four_tests one two three four) read_alike (refused_given (four_tests one two three four) q p) (g ∙ ap packed p)
 
-    pub record_done : (v : List ℤ) (x : List Float) → r.answer ≡ 0 → v ≡ words_from r.one r.two r.three r.four
-        → x ≡ numbers_from r.one r.two r.three r.four → TellsImmediate one two three four words numbers 0 v x
-    record_done v x h f g =
-        let z = told_zero (first_of (four_tests one two three four)) (place_of (four_tests one two three four)) (sym a.answer ∙ h) in
-        let y : first_of tests ≡ 0 = read_alike.0 ∙ z in
-        let w = a.values z in
+    pub record_done : (u : FourValues) (v : List ℤ) (x : List Float) → r ≡ Ok u → v ≡ words_from u.one u.two u.three u.four
+        → x ≡ numbers_from u.one u.two u.three u.four → TellsImmediate one two three four words numbers 0 v x
+    record_done u v x h f g =
+        let p : 0 ∷ [] ≡ answer_of (four_tests one two three four) [] = ap read_paper (sym h) ∙ a.answer in
+        let y : first_of tests ≡ 0 = read_alike.0 ∙ first_given (four_tests one two three four) [] p in
+        let w = IfOk-at_ok _ h a.values in
         record {
-          answer = told_none (first_of tests) (place_of tests) y;
+          answer = ap packed (p ∙ sym (alike_said tests (four_tests one two three four) read_alike));
           raw = f ∙ rw (w.first, w.second, w.third, w.fourth) (words_are (left one) (left two) (left three) (left four))
               ∙ left_done tests (record_words (left one) (left two) (left three) (left four)) words y;
           floats = g ∙ rw (w.first, w.second, w.third, w.fourth) (floats_are (left one) (left two) (left three) (left four))

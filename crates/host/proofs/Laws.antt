@@ -7,7 +7,7 @@ use Prim.Native.Nat.{ℕ, zero, suc, ◌-◌, ◌%◌, ◌≤◌, ◌<◌, suc-l
 use native.Mathlib.Nat.{le_of_suc-le-suc, not-suc-le-zero, zero-lt-suc}
 use native.Mathlib.Omega.{arith}
 use borrow.Author.Tests.{eq-eqb, eqb-true}
-use lib.Dec.{T, eqb, leb, ltb, ltb→lt, leb→le}
+use lib.Dec.{T, eqb, ltb, ltb→lt}
 use lib.Ieee.{Float, fin}
 use lib.IntN.{ℤ, pos, neg_ℤ}
 use lib.ListN.{length, get_or}
@@ -28,7 +28,7 @@ use Rattle.host.specs.Laws.{GivenBy, GivenOnly, IsExact, MinusZero, AreStrings, 
 use Rattle.host.proofs.Sequence.{is_number, nonzero, alike_told, told_zero, left_done}
 use Rattle.host.proofs.Floats.{raw_held}
 use Rattle.host.proofs.NoWord.{no_word_refuses}
-use Rattle.host.proofs.WordAnswers.{tests_out}
+use Rattle.host.proofs.WordAnswers.{in_table, tests_out}
 use Rattle.host.proofs.FourStrings.{not_long}
 
 -- ---- the lowest byte is the number that is given, where every number is below 256
@@ -106,9 +106,7 @@ given_only ts n a e =
 
 -- ---- a call of one word that answers 0
 word_by : (number : ℕ) (b : Bool) → is_word number ≡ b → (is_word number ≡ false → ⊥) → (1 ≤ number) × (number ≤ 22)
-word_by number true e h =
-    let t : T (is_word number) = subst T (sym e) tt in
-    (leb→le 1 number (and_left (leb 1 number) (leb number 22) t), leb→le number 22 (and_right (leb 1 number) (leb number 22) t))
+word_by number true e h = in_table number e
 word_by number false e h = absurd (h e)
 
 module _ (s : List ℕ) (number : ℕ) (v : Float) (r : ℕ) (x : Float) (a : TellsWord s number v r x) (e : r ≡ 0) where

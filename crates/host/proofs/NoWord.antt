@@ -9,9 +9,9 @@ use native.Mathlib.Omega.{arith}
 use lib.Dec.{eqb}
 use lib.ListN.{length}
 use Rattle.strings.specs.declared.Refusal.{Refusal}
+use Rattle.strings.specs.declared.Refusal.TheVariants.{Number, Place}
+use Rattle.std.specs.Prelude.{Result, Ok, Err}
 use Rattle.strings.specs.declared.Verdict.{Verdict}
-use Rattle.strings.specs.declared.Checked.{Checked}
-use Rattle.strings.specs.declared.Checked.TheVariants.{Taken, Refused as NotTaken}
 use Rattle.strings.specs.Pick.{pick}
 use Rattle.strings.specs.Number.{number_of}
 use Rattle.strings.specs.Hamming.{ruling, mended}
@@ -25,9 +25,8 @@ use Rattle.strings.proofs.Shape.{shaped, has_room_lem}
 use Rattle.strings.proofs.Tests.{first_by}
 use Rattle.strings.proofs.Value.{Bytes, number_lt, string_number_lem}
 use Rattle.words.specs.Calls.{number_in}
-use Rattle.told.specs.Told.{packed}
 use Rattle.host.specs.Host.{no_word_tests}
-use Rattle.host.proofs.Sequence.{is_number, nonzero, string_numbers, stop_at, alike_told}
+use Rattle.host.proofs.Sequence.{is_number, nonzero, string_numbers, stop_at, alike_said}
 use Rattle.host.proofs.Values.{refused_said}
 
 -- the two tests past the check's
@@ -35,7 +34,7 @@ abbrev last_tests : ℕ → List Test
 last_tests n = test 5 (eqb (number_in n) 0) ∷ test 11 true ∷ []
 
 -- NUMBER or PLACE
-abbrev pub last_number : Bool → ℕ
+abbrev last_number : Bool → ℕ
 last_number b = pick b 5 11
 
 last_refuses : (b : Bool) → last_number b ≡ 0 → ⊥
@@ -48,27 +47,27 @@ no_word_refuses s e =
     ⊎_elim (λ t. nonzero (first_of (no_word_tests s)) t e) (λ p. last_refuses (eqb (number_in (mended (number_of s))) 0) (sym p.1 ∙ e))
     (first_by is_number (string_tests s) us (string_numbers s))
 
-last_told : (b : Bool) → packed (answer_of (test 5 b ∷ test 11 true ∷ []) []) ≡ last_number b
-last_told true = refl
-last_told false = refl
+last_said : (b : Bool) → refusal_paper (pick b Number Place) ≡ answer_of (test 5 b ∷ test 11 true ∷ []) []
+last_said true = refl
+last_said false = refl
 
-module _ (s out out' : List ℕ) (c : Checked) (room : length out ≡ 11) (a : Checks s out c out') where
-  pub refused_no_word : (q : Refusal) → c ≡ NotTaken q → packed (refusal_paper q) ≡ packed (answer_of (no_word_tests s) [])
+module _ (s out out' : List ℕ) (c : Result Verdict Refusal) (room : length out ≡ 11) (a : Checks s out c out') where
+  pub refused_no_word : (q : Refusal) → c ≡ Err q → refusal_paper q ≡ answer_of (no_word_tests s) []
   unfolding Checks
   refused_no_word q e =
       let n = number_of s in
       let p : refusal_paper q ≡ answer_of (string_tests s) (verdict_told (ruling n)) = rw (has_room_lem out room) at (ap checked_paper (sym e) ∙ a.answer) in
       let d = refused_said q (verdict_told (ruling n)) (first_of (string_tests s)) (place_of (string_tests s)) p in
-      ap packed d.0 ∙ sym (alike_told (no_word_tests s) (string_tests s) (stop_at (string_tests s) (last_tests (mended n)) d.1))
+      d.0 ∙ sym (alike_said (no_word_tests s) (string_tests s) (stop_at (string_tests s) (last_tests (mended n)) d.1))
 
-  pub taken_no_word : (v : Verdict) (m : ℕ) → c ≡ Taken v → Bytes s → m ≡ number_in (number_of out') → last_number (eqb m 0) ≡ packed (answer_of (no_word_tests s) [])
+  pub taken_no_word : (v : Verdict) (m : ℕ) → c ≡ Ok v → Bytes s → m ≡ number_in (number_of out') → refusal_paper (pick (eqb m 0) Number Place) ≡ answer_of (no_word_tests s) []
   unfolding Checks
   taken_no_word v m e b h =
       let n = number_of s in
-      let a' = subst (λ (x : Checked). Checks s out x out') e a in
+      let a' = subst (λ (x : Result Verdict Refusal). Checks s out x out') e a in
       let t = check_took s out v out' a' in
       let f = ap number_of (taken_made (verdict_paper v) a') ∙ string_number_lem (mended n) (mended_lt n (number_lt s b (shaped s t.0).0)) in
       let w = sound_then n t.1 (last_tests (mended n)) in
-      ap (λ (j : ℕ). last_number (eqb j 0)) (h ∙ ap number_in f)
-      ∙ sym (last_told (eqb (number_in (mended n)) 0))
-      ∙ sym (rw t.0 (alike_told (sound_tests n ++ last_tests (mended n)) (last_tests (mended n)) w))
+      ap (λ (j : ℕ). refusal_paper (pick (eqb j 0) Number Place)) (h ∙ ap number_in f)
+      ∙ last_said (eqb (number_in (mended n)) 0)
+      ∙ sym (rw t.0 (alike_said (sound_tests n ++ last_tests (mended n)) (last_tests (mended n)) w))

@@ -1,7 +1,7 @@
 -- Lists of tests one after the other: the first list gives no number and the second answers (past_all), or it gives one and the second is not asked (stop-at); and what
--- an answer in one number says of the number that is given (told-zero, told_none).
+-- an answer in one number says of the number that is given (told-zero, none_said).
 -- Assumes nothing.
-use mathlib.Core.Path.{◌≡◌, refl, sym, ap₂, subst, ◌∙◌}
+use mathlib.Core.Path.{◌≡◌, refl, sym, ap, ap₂, subst, ◌∙◌}
 use mathlib.Core.Bool.{Bool, true, false, not}
 use mathlib.Core.List.{List, [], ◌∷◌, ◌++◌}
 use Prim.Native.Nat.{ℕ, zero, suc}
@@ -58,18 +58,21 @@ stop_at (t ∷ ts) us h = by t.fits (stop_at ts us) h
 pub alike_on : (ts us vs : List Test) → Alike ts us → Alike us vs → Alike ts vs
 alike_on ts us vs p q = (p.0 ∙ q.0, p.1 ∙ q.1)
 
--- so their answer in one number is the same
+-- so their answer is the same, also in one number
+pub alike_said : (ts us : List Test) → Alike ts us → answer_of ts [] ≡ answer_of us []
+alike_said ts us p = ap₂ (λ (n : ℕ) (l : List ℕ). said_by n l []) p.0 p.1
+
 pub alike_told : (ts us : List Test) → Alike ts us → packed (answer_of ts []) ≡ packed (answer_of us [])
-alike_told ts us p = ap₂ (λ (n : ℕ) (l : List ℕ). packed (said_by n l [])) p.0 p.1
+alike_told ts us p = ap packed (alike_said ts us p)
 
 -- ---- the answer of a call that tells nothing but its number is 0 exactly where none is given
 pub told_zero : (n : ℕ) (p : List ℕ) → packed (said_by n p []) ≡ 0 → n ≡ 0
 told_zero zero p e = refl
 told_zero (suc k) p e = absurd (omega arith)
 
-pub told_none : (n : ℕ) (p : List ℕ) → n ≡ 0 → 0 ≡ packed (said_by n p [])
-told_none zero p e = refl
-told_none (suc k) p e = absurd (omega arith)
+pub none_said : (n : ℕ) (p : List ℕ) → n ≡ 0 → 0 ∷ [] ≡ said_by n p []
+none_said zero p e = refl
+none_said (suc k) p e = absurd (omega arith)
 
 -- ---- what is left
 pub left_refused : {A : Type 0} (ts : List Test) (made out : A) → (first_of ts ≡ 0 → ⊥) → out ≡ left_in ts made out

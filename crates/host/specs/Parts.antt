@@ -1,33 +1,40 @@
 -- What the parts of the calls promise: a string read, four strings read, and the words and the floats from the values.
 -- Assumes nothing.
-use Rattle.std.specs.Prelude.{ℕ, List, [], ◌∷◌, ◌≡◌, Float, ℤ}
-use Rattle.strings.specs.Numbers.{Test, first_of, answer_of}
+use Rattle.std.specs.Prelude.{ℕ, List, [], ◌∷◌, ◌≡◌, Float, ℤ, Result, Ok, Err}
+use Rattle.std.specs.Result.{IfOk}
+use Rattle.strings.specs.declared.Refusal.{Refusal}
+use Rattle.strings.specs.Numbers.{refusal_paper, Test, answer_of}
 use Rattle.records.specs.declared.kinds.Kind.{Kind}
 use Rattle.records.specs.declared.kinds.Kind.TheVariants.{One, Two, Three, Four}
 use Rattle.records.specs.Records.{at}
 use Rattle.layout.specs.Layout.{layout}
 use Rattle.words.specs.Values.{values_of}
-use Rattle.told.specs.Told.{packed}
 use Rattle.scaled.specs.Scaled.{scaled_of}
 use Rattle.scaled.specs.Units.{place_at, unit_at}
-use Rattle.host.specs.declared.reading.ReadOut.{ReadOut}
-use Rattle.host.specs.declared.record.FourRead.{FourRead}
+use Rattle.host.specs.declared.record.FourValues.{FourValues}
 use Rattle.host.specs.Host.{left, four_tests}
 
--- the answer of these tests in one number, and where none fits the values of the kind in the string n
-pub record TellsValues (tests : List Test) (n : ℕ) (k : Kind) (r : ReadOut) : Type 0 where
-  pub answer : r.answer ≡ packed (answer_of tests [])
-  pub values : first_of tests ≡ 0 → r.values ≡ values_of n (layout k)
+-- an answer in the paper's numbers: 0 and no more where values are told, else the refusal's
+abbrev pub read_paper : {A : Type 0} → Result A Refusal → List ℕ
+read_paper (Ok _) = 0 ∷ []
+read_paper (Err q) = refusal_paper q
 
-pub record AreFour (one two three four : List ℕ) (r : FourRead) : Type 0 where
-  pub first : r.one ≡ values_of (left one) (layout One)
-  pub second : r.two ≡ values_of (left two) (layout Two)
-  pub third : r.three ≡ values_of (left three) (layout Three)
-  pub fourth : r.four ≡ values_of (left four) (layout Four)
+-- the answer of these tests, and where none fits the values of the kind in the string n
+pub record TellsValues (tests : List Test) (n : ℕ) (k : Kind) (r : Result (List ℤ) Refusal) : Type 0 where
+  pub answer : read_paper r ≡ answer_of tests []
+  pub values : IfOk r (λ v. v ≡ values_of n (layout k))
 
-pub record TellsFour (one two three four : List ℕ) (r : FourRead) : Type 0 where
-  pub answer : r.answer ≡ packed (answer_of (four_tests one two three four) [])
-  pub values : first_of (four_tests one two three four) ≡ 0 → AreFour one two three four r
+-- the values of each of the four, in the string as the check leaves it
+pub record AreFour (one two three four : List ℕ) (v : FourValues) : Type 0 where
+  pub first : v.one ≡ values_of (left one) (layout One)
+  pub second : v.two ≡ values_of (left two) (layout Two)
+  pub third : v.three ≡ values_of (left three) (layout Three)
+  pub fourth : v.four ≡ values_of (left four) (layout Four)
+
+-- the answer of the four strings' tests, and where none fits the values of each
+pub record TellsFour (one two three four : List ℕ) (r : Result FourValues Refusal) : Type 0 where
+  pub answer : read_paper r ≡ answer_of (four_tests one two three four) []
+  pub values : IfOk r (λ v. AreFour one two three four v)
 
 -- the words of four kinds from their values, without the places that a kind does not fill
 abbrev pub words_from : List ℤ → List ℤ → List ℤ → List ℤ → List ℤ

@@ -1,10 +1,11 @@
 // The calls of a host in C.
 ghost use Rattle.host.specs.Host.{TellsCheck, TellsWord, TellsImmediate};
 
-use crate::reading::{float_at, no_word, read_kind};
+use crate::reading::{float_at, is_word, no_word, read_kind};
 use crate::record::{are_strings, read_four, record_numbers, record_words};
 use scaled::signed_word;
-use told::checked_told;
+use strings::Refusal;
+use told::{checked_told, refusal_told};
 
 // Checks a plain string, and writes it into eleven bytes as the check leaves it. Answers 0 with the
 // verdict, in the next byte 0 clean or 1 repaired, and above that the bit that was repaired; or 12 ROOM,
@@ -24,21 +25,18 @@ pub extern "C" fn spineyarrow_check(s: &[u8], out: &mut [u8]) -> u32
 pub extern "C" fn spineyarrow_word(s: &[u8], word: u8, value: &mut f64) -> u32
     ensures { TellsWord s.now word value.old result value.new }
 {
-    if word == 0 {
-        return no_word(s);
-    }
-    if 22 < word {
-        return no_word(s);
+    if !is_word(word) {
+        return refusal_told(no_word(s)) as u32;
     }
     let w = signed_word(word);
-    let k = w.0;
-    let found = read_kind(s, k);
-    if found.answer != 0 {
-        return found.answer;
+    let found = read_kind(s, w.0);
+    match found {
+        Err(why) => refusal_told(why) as u32,
+        Ok(values) => {
+            *value = float_at(word, values);
+            0
+        }
     }
-    let values = found.values;
-    *value = float_at(word, values);
-    0
 }
 
 // Reads the immediate record from strings 1 to 4 in plain form: its 26 raw words in the order of the
@@ -57,17 +55,15 @@ pub extern "C" fn spineyarrow_immediate(
     ensures { TellsImmediate one.now two.now three.now four.now words.old numbers.old result words.new numbers.new }
 {
     if !are_strings(one, two, three, four) {
-        return 2;
+        return refusal_told(Refusal::Shape) as u32;
     }
     let read = read_four(one, two, three, four);
-    if read.answer != 0 {
-        return read.answer;
+    match read {
+        Err(why) => refusal_told(why) as u32,
+        Ok(v) => {
+            *words = record_words(v.one, v.two, v.three, v.four);
+            *numbers = record_numbers(v.one, v.two, v.three, v.four);
+            0
+        }
     }
-    let a = read.one;
-    let b = read.two;
-    let c = read.three;
-    let d = read.four;
-    *words = record_words(a, b, c, d);
-    *numbers = record_numbers(a, b, c, d);
-    0
 }

@@ -4,72 +4,38 @@ ghost use Rattle.host.specs.Parts.{TellsFour, words_from, numbers_from};
 
 use crate::reading::{float_at, read_kind};
 use records::Kind;
+use strings::Refusal;
 
-// What four readings tell: 0 and the values of each, or the first refusal's numbers in one.
+// The values of strings 1 to 4, each as a list of its kind.
 #[derive(Clone, Copy)]
-pub struct FourRead {
-    pub answer: u32,
+pub struct FourValues {
     pub one: [i32; 8],
     pub two: [i32; 8],
     pub three: [i32; 8],
     pub four: [i32; 8],
 }
 
-fn refused(answer: u32) -> FourRead
-    ensures { result.answer ≡ answer }
-{
-    FourRead {
-        answer,
-        one: [0; 8],
-        two: [0; 8],
-        three: [0; 8],
-        four: [0; 8],
-    }
-}
-
 // Whether each has the length of a string.
 pub fn are_strings(one: &[u8], two: &[u8], three: &[u8], four: &[u8]) -> bool
     ensures { result ≡ (eqb (length one.now) 11 && (eqb (length two.now) 11 && (eqb (length three.now) 11 && eqb (length four.now) 11))) }
 {
-    if one.len() == 11 {
-        if two.len() == 11 {
-            if three.len() == 11 {
-                return four.len() == 11;
-            }
-        }
-    }
-    false
+    one.len() == 11 && two.len() == 11 && three.len() == 11 && four.len() == 11
 }
 
 // Reads strings 1 to 4 one after the other, up to the first that is refused.
-pub fn read_four(one: &[u8], two: &[u8], three: &[u8], four: &[u8]) -> FourRead
+pub fn read_four(one: &[u8], two: &[u8], three: &[u8], four: &[u8]) -> Result<FourValues, Refusal>
     ensures { TellsFour one.now two.now three.now four.now result }
 {
-    let a = read_kind(one, Kind::One);
-    if a.answer != 0 {
-        return refused(a.answer);
-    }
-    let b = read_kind(two, Kind::Two);
-    if b.answer != 0 {
-        return refused(b.answer);
-    }
-    let c = read_kind(three, Kind::Three);
-    if c.answer != 0 {
-        return refused(c.answer);
-    }
-    let d = read_kind(four, Kind::Four);
-    let answer = d.answer;
-    let one = a.values;
-    let two = b.values;
-    let three = c.values;
-    let four = d.values;
-    FourRead {
-        answer,
-        one,
-        two,
-        three,
-        four,
-    }
+    let a = read_kind(one, Kind::One)?;
+    let b = read_kind(two, Kind::Two)?;
+    let c = read_kind(three, Kind::Three)?;
+    let d = read_kind(four, Kind::Four)?;
+    Ok(FourValues {
+        one: a,
+        two: b,
+        three: c,
+        four: d,
+    })
 }
 
 // The 26 words in the paper's order, from the values of the four strings.

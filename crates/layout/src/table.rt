@@ -68,6 +68,9 @@ pub fn word_at(k: Kind, j: usize) -> Word
     }
 }
 
+// A match a kind, and no table of constants: that is laid on the stack at each use, some hundred instructions and 196
+// bytes more for each word on the card's core.
+
 // String 1.
 fn string_1(j: usize) -> Word
     ensures { result ≡ get_or (layout One) j none }

@@ -9,16 +9,18 @@ use mathlib.Core.Path.{◌≡◌, refl, sym, ap, subst, ◌∙◌}
 use lib.Dec.{eqb, ltb, ltb→lt}
 use lib.ListN.{get_or, take}
 use Rattle.strings.specs.Pick.{pick}
+use Rattle.channel.specs.declared.TakenString.{TakenString}
+use Rattle.strings.specs.declared.hamming.Damage.{Damage}
+use Rattle.std.specs.Prelude.{Result, Ok, Err}
 use Rattle.strings.specs.declared.Refusal.{Refusal}
 use Rattle.strings.specs.declared.Refusal.TheVariants.{Channel, Shape, Damaged, Idle, Number, Early, Stale, OffBeat, Conflict, Range, Place, Room, Nothing, Slot, Owner, Card}
 use Rattle.strings.specs.declared.hamming.Damage.TheVariants.{Unplaced, Even, Outside}
 use Rattle.strings.specs.declared.Verdict.{Verdict}
 use Rattle.strings.specs.declared.Verdict.TheVariants.{Clean, Repaired}
-use Rattle.strings.specs.declared.hamming.Ruling.{Ruling}
-use Rattle.strings.specs.declared.hamming.Ruling.TheVariants.{Sound, Damaged as Bad}
 use Rattle.strings.specs.Hamming.{NamesBit, ruling}
 use Rattle.strings.specs.Number.{bit_of, number_of}
 use Rattle.strings.proofs.Digits.{bit_lt}
+use Rattle.relative.specs.declared.Polarity.{Polarity}
 use Rattle.relative.specs.Polarity.{first_symbol}
 use Rattle.strings.specs.Numbers.{refusal_paper, Test, test, first_of, place_of, said_by, answer_of}
 use Rattle.strings.specs.Calls.{sound_tests}
@@ -27,10 +29,8 @@ use Rattle.strings.proofs.Tests.{first_of_lem, no_place}
 use Rattle.words.specs.Calls.{number_in}
 use Rattle.channel.specs.declared.News.{News}
 use Rattle.channel.specs.declared.News.TheVariants.{AlreadyHeld, Kept, RecordBuilt, RecordOutOfRange}
-use Rattle.channel.specs.declared.Answer.{Answer}
-use Rattle.channel.specs.declared.Answer.TheVariants.{Taken, Refused}
 use Rattle.channel.specs.Frame.{news_of}
-use Rattle.channel.specs.Offers.{news_number, answer_paper, told_as}
+use Rattle.channel.specs.Offers.{news_number, answer_paper, told_as, took}
 use Rattle.channel.proofs.Answers.{answer_same}
 use Rattle.channel.proofs.Frames.{number_small}
 use Rattle.hearing.specs.Hears.{plain_of, whole_of, verdict_of}
@@ -92,9 +92,9 @@ taken_small m (Repaired i) w x h = six_small m 1 i (news_number w) (first_symbol
 names_one : (n : ℕ) → NamesBit (verdict_of (ruling n))
 names_one n = by (ruling n) refl
   where
-    by : (r : Ruling) → ruling n ≡ r → NamesBit (verdict_of r)
-    by (Sound v) e = names_bit n v e
-    by (Bad d) e = tt
+    by : (r : Result Verdict Damage) → ruling n ≡ r → NamesBit (verdict_of r)
+    by (Ok v) e = names_bit n v e
+    by (Err d) e = tt
 
 module _ (st : Station) (card c epoch : ℕ) (s : List ℕ) where
   abbrev tests : List Test
@@ -197,10 +197,13 @@ refusal_read Slot = refl
 refusal_read Owner = refl
 refusal_read Card = refl
 
-paper_read : (a : Answer) → told (six (answer_paper a)) ≡ answer_paper a
-paper_read (Taken m Clean w p) = refl
-paper_read (Taken m (Repaired i) w p) = refl
-paper_read (Refused q) = refusal_read q
+taken_read : (m : ℕ) (v : Verdict) (w : News) (p : Polarity) → told (six (answer_paper (took m v w p))) ≡ answer_paper (took m v w p)
+taken_read m Clean w p = refl
+taken_read m (Repaired i) w p = refl
+
+paper_read : (a : Result TakenString Refusal) → told (six (answer_paper a)) ≡ answer_paper a
+paper_read (Ok said) = taken_read said.m said.verdict said.news said.polarity
+paper_read (Err q) = refusal_read q
 
 -- the first six bytes of a number
 abbrev byte_of : ℕ → ℕ → ℕ
@@ -212,18 +215,18 @@ six_in n = byte_of n 0 ∷ byte_of n 1 ∷ byte_of n 2 ∷ byte_of n 3 ∷ byte_
 six_read : (xs : List ℕ) → AreBytes xs → six_in (packed xs) ≡ six xs
 six_read xs h = rw (read_back_lem xs h 0, read_back_lem xs h 1, read_back_lem xs h 2, read_back_lem xs h 3, read_back_lem xs h 4, read_back_lem xs h 5)
 
-apart : (a b : Answer) → AreBytes (answer_paper a) → AreBytes (answer_paper b) → packed (answer_paper a) ≡ packed (answer_paper b) → a ≡ b
+apart : (a b : Result TakenString Refusal) → AreBytes (answer_paper a) → AreBytes (answer_paper b) → packed (answer_paper a) ≡ packed (answer_paper b) → a ≡ b
 apart a b h k e =
     answer_same a b
     (sym (paper_read a) ∙ ap told (sym (six_read (answer_paper a) h) ∙ ap six_in e ∙ six_read (answer_paper b) k) ∙ paper_read b)
 
 -- ---- the number tells the answer
-module _ {a : Answer} {n : ℕ} (t : ToldAs a n) where
+module _ {a : Result TakenString Refusal} {n : ℕ} (t : ToldAs a n) where
   told_bytes : AreBytes (answer_paper a)
-  told_bytes = subst (λ (x : Answer). AreBytes (answer_paper x)) t.answer (bytes t.before t.card t.channel t.epoch t.bytes t.step t.offers)
+  told_bytes = subst (λ (x : Result TakenString Refusal). AreBytes (answer_paper x)) t.answer (bytes t.before t.card t.channel t.epoch t.bytes t.step t.offers)
 
   told_number : n ≡ packed (answer_paper a)
-  told_number = t.lent.answer ∙ ap packed (sym t.offers.answer) ∙ ap (λ (x : Answer). packed (answer_paper x)) t.answer
+  told_number = t.lent.answer ∙ ap packed (sym t.offers.answer) ∙ ap (λ (x : Result TakenString Refusal). packed (answer_paper x)) t.answer
 
 -- ALL OF THEM
 pub laws : Laws

@@ -8,12 +8,11 @@ use Rattle.strings.specs.Numbers.{verdict_paper}
 use Rattle.channel.specs.declared.News.{News}
 use Rattle.relative.specs.declared.Polarity.{Polarity}
 use Rattle.relative.specs.Polarity.{polarity_number}
-use Rattle.channel.specs.declared.Answer.TheVariants.{Taken}
-use Rattle.channel.specs.Offers.{news_number, answer_paper}
+use Rattle.channel.specs.Offers.{news_number, answer_paper, took}
 use Rattle.told.specs.Told.{packed}
 
 -- a verdict has two
 pub taken_packed : (m : ℕ) (v : Verdict) (w : News) (p : Polarity)
-    → 256 * m + 65536 * packed (verdict_paper v) + 4294967296 * news_number w + 1099511627776 * polarity_number p ≡ packed (answer_paper (Taken m v w p))
+    → 256 * m + 65536 * packed (verdict_paper v) + 4294967296 * news_number w + 1099511627776 * polarity_number p ≡ packed (answer_paper (took m v w p))
 taken_packed m Clean w p = omega arith
 taken_packed m (Repaired i) w p = omega arith

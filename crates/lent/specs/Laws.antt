@@ -1,9 +1,10 @@
 -- What holds of every offer to a lent station and of every reset, whatever the station and the bytes: it is the station's own, a step of its history, and its
 -- one number tells the answer. Proved as `laws` in `proofs/Laws.antt`.
 -- Assumes nothing.
-use Rattle.std.specs.Prelude.{ℕ, ◌^◌, ◌<◌, List, ◌∷◌, ◌↔◌, ◌≡◌}
+use Rattle.std.specs.Prelude.{ℕ, ◌^◌, ◌<◌, List, ◌∷◌, ◌↔◌, ◌≡◌, Result}
+use Rattle.strings.specs.declared.Refusal.{Refusal}
+use Rattle.channel.specs.declared.TakenString.{TakenString}
 use Rattle.strings.specs.Calls.{written_paper}
-use Rattle.channel.specs.declared.Answer.{Answer}
 use Rattle.channel.specs.Offers.{answer_paper}
 use Rattle.station.specs.declared.Station.{Station}
 use Rattle.station.specs.declared.Stepped.{Stepped}
@@ -27,7 +28,7 @@ pub record AsReset (st : Station) (card c : ℕ) (st' : Station) (r : ℕ) : Typ
   pub station : st' ≡ step.station
 
 -- an answer of an offer, and the number that the host gets where the station was lent
-pub record ToldAs (a : Answer) (n : ℕ) : Type 0 where
+pub record ToldAs (a : Result TakenString Refusal) (n : ℕ) : Type 0 where
   pub before : Station
   pub card : ℕ
   pub channel : ℕ
@@ -49,11 +50,11 @@ pub record Laws : Type 0 where
   pub as_reset : (st : Station) (card c : ℕ) (st' : Station) (r : ℕ) → ResetsLent st card c st' r ↔ AsReset st card c st' r
   pub runs_reset : (cs : List Call) (st : Station) (card c : ℕ) (st' : Station) (r : ℕ) → Runs cs st → ResetsLent st card c st' r → Runs (Reset card c ∷ cs) st'
   -- the number tells the answer: no two answers of offers, to whatever stations, have the same
-  pub told_once : (a b : Answer) (n : ℕ) → ToldAs a n → ToldAs b n → a ≡ b
+  pub told_once : (a b : Result TakenString Refusal) (n : ℕ) → ToldAs a n → ToldAs b n → a ≡ b
   -- for the numbers of an offer's answer fit in a byte each
   pub in_bytes_lem : (st : Station) (card c epoch : ℕ) (s : List ℕ) (r : Stepped) → OffersTo st card c epoch s r → AreBytes (answer_paper r.answer)
   -- and no two answers whose numbers do are packed alike
-  pub told_apart : (a b : Answer) → AreBytes (answer_paper a) → AreBytes (answer_paper b) → packed (answer_paper a) ≡ packed (answer_paper b) → a ≡ b
+  pub told_apart : (a b : Result TakenString Refusal) → AreBytes (answer_paper a) → AreBytes (answer_paper b) → packed (answer_paper a) ≡ packed (answer_paper b) → a ≡ b
   -- six bytes hold what an offer tells, and five bits what a reset does
   pub six_bytes : (st : Station) (card c epoch : ℕ) (s : List ℕ) (st' : Station) (r : ℕ) → OffersLent st card c epoch s st' r → r < 2 ^ 48
   pub five_bits : (st : Station) (card c : ℕ) (st' : Station) (r : ℕ) → ResetsLent st card c st' r → r < 2 ^ 5

@@ -1,9 +1,9 @@
 -- An offer to a station that is lent, and a reset of one, each changing it in its place (the paper, "Frames and the book" and "Numbers that say no"; request
 -- 10). For every station value, whichever card asks.
 -- Assumes nothing.
-use Rattle.std.specs.Prelude.{ℕ, Bool, List, ◌≡◌}
+use Rattle.std.specs.Prelude.{ℕ, Bool, List, ◌≡◌, Option}
+use Rattle.book.specs.declared.Entry.{Entry}
 use Rattle.strings.specs.Numbers.{answer_of}
-use Rattle.book.specs.declared.Shown.{Shown}
 use Rattle.book.specs.Book.{joined_shown}
 use Rattle.shows.specs.Shows.{brought, rises_in, changes}
 use Rattle.station.specs.declared.Station.{Station}
@@ -21,7 +21,7 @@ pub record ResetsLent (st : Station) (card c : ℕ) (st' : Station) (r : ℕ) : 
   pub station : st' ≡ station_reset st card c
 
 -- one thing that is shown, joined to the book, and whether an entry changed; the rows and the summary as they were
-abbrev pub BringsOne : Station → Shown → Station → Bool → Type 0
+abbrev pub BringsOne : Station → Option (ℕ × Entry) → Station → Bool → Type 0
 BringsOne st s st' changed =
     (st' ≡ record { rows = st.rows; book = joined_shown st.book s; summary = st.summary }) × (changed ≡ rises_in st.book s)
 
@@ -30,6 +30,6 @@ abbrev pub SumsUp : Station → Bool → Station → Type 0
 SumsUp st changed st' = st' ≡ record { rows = st.rows; book = st.book; summary = corrected changed st.book st.summary }
 
 -- one after the other, and then the summary: all that is shown is brought to the book; the rows as they were
-abbrev pub BringsAll : Station → List Shown → Station → Type 0
+abbrev pub BringsAll : Station → List (Option (ℕ × Entry)) → Station → Type 0
 BringsAll st ss st' =
     st' ≡ record { rows = st.rows; book = brought st.book ss; summary = corrected (changes st.book ss) (brought st.book ss) st.summary }

@@ -5,7 +5,7 @@ ghost use Rattle.shows.specs.Changes.{AllInBook};
 ghost use Rattle.lent.specs.Lent.{OffersLent, BringsAll, BringsOne, SumsUp};
 
 use crate::telling::told_in;
-use book::{Shown, join, place_of, rises};
+use book::{Entry, join, place_of, rises};
 use shows::newly_shown;
 use station::{Station, gate_number};
 use summary::walk_book;
@@ -41,20 +41,20 @@ pub extern "C" fn spineyarrow_offer(
 }
 
 // Brings all that is shown to the book, one after the other, and sums the book up.
-fn bring_all(st: &mut Station, shown: [Shown; 5])
+fn bring_all(st: &mut Station, shown: [Option<(u8, Entry)>; 5])
     requires { AllInBook shown }
     ensures { BringsAll st.old shown st.new }
 {
     let mut changed = false;
-    for j in 0..5 {
-        changed = bring_one(st, shown[j]) | changed;
+    for s in shown {
+        changed = bring_one(st, s) | changed;
     }
     sum_up(st, changed);
 }
 
 // Joins what is shown to the book, in its place: an entry is copied only where what is shown rises.
 // Answers whether it did.
-fn bring_one(st: &mut Station, s: Shown) -> bool
+fn bring_one(st: &mut Station, s: Option<(u8, Entry)>) -> bool
     requires { InBook s }
     ensures { BringsOne st.old s st.new result }
 {

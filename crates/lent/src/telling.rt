@@ -3,22 +3,23 @@ ghost use Rattle.std.specs.Prelude.{◌≡◌};
 ghost use Rattle.told.specs.Told.{packed};
 ghost use Rattle.channel.specs.Offers.{answer_paper, news_number};
 
-use channel::{Answer, News};
+use channel::{News, TakenString};
 use relative::polarity_number;
+use strings::Refusal;
 use told::{refusal_told, verdict_told};
 
 // The numbers of an answer in one number: the first in the lowest byte.
-pub fn told_in(a: Answer) -> u64
+pub fn told_in(a: Result<TakenString, Refusal>) -> u64
     ensures { result ≡ packed (answer_paper a) }
 {
     match a {
-        Answer::Taken(m, v, news, polarity) => {
-            256 * (m as u64)
-                + 65536 * (verdict_told(v) as u64)
-                + 4294967296 * (news_told(news) as u64)
-                + 1099511627776 * (polarity_number(polarity) as u64)
+        Ok(taken) => {
+            256 * (taken.m as u64)
+                + 65536 * (verdict_told(taken.verdict) as u64)
+                + 4294967296 * (news_told(taken.news) as u64)
+                + 1099511627776 * (polarity_number(taken.polarity) as u64)
         }
-        Answer::Refused(why) => refusal_told(why) as u64,
+        Err(why) => refusal_told(why) as u64,
     }
 }
 

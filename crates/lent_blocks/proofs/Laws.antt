@@ -6,6 +6,8 @@ use native.Mathlib.Omega.{arith}
 use mathlib.Core.List.{List, [], ◌∷◌, ◌++◌, map}
 use mathlib.Core.Path.{◌≡◌, refl, sym, ap, subst, ◌∙◌}
 use Rattle.strings.specs.Calls.{written_paper}
+use Rattle.fields.specs.declared.Why.{Why}
+use Rattle.std.specs.Prelude.{Result, ⊤}
 use Rattle.fields.specs.declared.Why.TheVariants.{Tag, Length, Cut}
 use Rattle.fields.specs.Fields.{size_at}
 use Rattle.channel.specs.Offers.{answer_paper}
@@ -14,7 +16,6 @@ use Rattle.station.specs.declared.Station.{Station}
 use Rattle.blocks.specs.declared.Told.{Told}
 use Rattle.blocks.specs.declared.Told.TheVariants.{End, Offered, Emptied, Remark, Refused}
 use Rattle.blocks.specs.declared.Taken.{Taken}
-use Rattle.blocks.specs.declared.Ended.{Ended}
 use Rattle.blocks.specs.Taking.{told_paper, Takes}
 use Rattle.blocks.specs.Handing.{is_last, ended_by}
 use Rattle.blocks.specs.Along.{answers_in, Along, stops as along-stops, goes as along-goes}
@@ -86,7 +87,7 @@ module _ {st : Station} {card : ℕ} {block : List ℕ} {at : ℕ} {st' : Statio
 -- ---- a whole block
 record AsAlong (card : ℕ) (block : List ℕ) (st : Station) (at : ℕ) (rs : List ℕ) (last : Station) : Type 0 where
   answers : List (List ℕ)
-  ended : Ended
+  ended : Result ⊤ (Why × ℕ)
   along : Along card block st at answers last ended
   read : answers_read rs ≡ map packed answers
 

@@ -3,7 +3,7 @@ ghost use Rattle.std.specs.Prelude.{◌≡◌, ◌+◌};
 ghost use Rattle.fields.specs.Fields.{size_at};
 ghost use Rattle.lent_blocks.specs.Taking.{TakesLent};
 
-use crate::asking::{asked_at, symbols_at};
+use crate::asking::{Asked, asked_at, symbols_at};
 use fields::next_at;
 use lent::{spineyarrow_offer, spineyarrow_reset};
 use station::Station;
@@ -16,14 +16,13 @@ pub extern "C" fn spineyarrow_field(st: &mut Station, card: u8, block: &[u8], at
     ensures { TakesLent st.old card block.now at st.new result }
 {
     let asked = asked_at(block, at);
-    if asked.told == 1 {
-        return 1
-            + 256 * spineyarrow_offer(st, card, asked.channel, asked.epoch, symbols_at(block, at));
+    match asked {
+        Asked::Offer { channel, epoch } => {
+            1 + 256 * spineyarrow_offer(st, card, channel, epoch, symbols_at(block, at))
+        }
+        Asked::Reset { channel } => 2 + 256 * spineyarrow_reset(st, card, channel),
+        Asked::No(told) => told as u64,
     }
-    if asked.told == 2 {
-        return 2 + 256 * spineyarrow_reset(st, card, asked.channel);
-    }
-    asked.told as u64
 }
 
 // The place after the field: its own where it is refused, and at the end.

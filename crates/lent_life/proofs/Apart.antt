@@ -10,11 +10,15 @@ use lib.Dec.{T, eqb, leb, ltb}
 use lib.IntN.{ℤ}
 use lib.ListN.{length, get_or, drop, take}
 use Rattle.strings.specs.Pick.{pick}
+use Rattle.navigation.specs.declared.Unwritten.{Unwritten}
+use Rattle.station.specs.declared.Health.{Health as TheHealth}
+use Rattle.tallies.specs.declared.Tallies.{Tallies}
+use Rattle.book.specs.declared.Entry.{Entry as TheEntry}
+use Rattle.channel.specs.declared.TakenString.{TakenString}
+use Rattle.std.specs.Prelude.{Result, Ok, Err, None, ⊤}
 use Rattle.strings.specs.declared.Refusal.{Refusal}
 use Rattle.strings.specs.declared.Refusal.TheVariants.{Channel, Shape, Damaged, Idle, Number as NoNumber, Early, Stale, OffBeat, Conflict, Range, Place, Room, Nothing as None, Slot, Owner, Card}
 use Rattle.strings.specs.declared.hamming.Damage.TheVariants.{Unplaced, Even, Outside}
-use Rattle.strings.specs.declared.Written.{Written}
-use Rattle.strings.specs.declared.Written.TheVariants.{Done, Refused as NotWritten}
 use Rattle.strings.specs.Numbers.{refusal_paper, Test, test, test_at, first_of, place_of, said_by, answer_of}
 use Rattle.strings.specs.Calls.{written_paper}
 use Rattle.strings.proofs.Answer.{refusal_known, refusal_same, refusal_of, not_taken, written_same}
@@ -28,20 +32,9 @@ use Rattle.records.specs.Records.{string1_of, string2_of, string3_of, string4_of
 use Rattle.summary.specs.declared.Summary.{Summary}
 use Rattle.wire.specs.Bytes.{book_from}
 use Rattle.wire.proofs.Laws.{laws as wire-laws}
-use Rattle.channel.specs.declared.Answer.{Answer}
 use Rattle.channel.specs.Offers.{answer_paper}
 use Rattle.station.specs.declared.Station.{Station}
-use Rattle.station.specs.declared.RecordFound.{RecordFound}
-use Rattle.station.specs.declared.RecordFound.TheVariants.{Found as FoundRecord, Refused as NoRecord}
-use Rattle.station.specs.declared.EntryFound.{EntryFound}
-use Rattle.station.specs.declared.EntryFound.TheVariants.{Found as FoundEntry, Refused as NoEntry}
-use Rattle.station.specs.declared.TalliesFound.{TalliesFound}
-use Rattle.station.specs.declared.TalliesFound.TheVariants.{Found as FoundTallies, Refused as NoTallies}
-use Rattle.station.specs.declared.SummaryFound.{SummaryFound}
-use Rattle.station.specs.declared.SummaryFound.TheVariants.{Found as FoundSummary, Refused as NoSummary}
 use Rattle.station.specs.declared.Health.TheVariants.{Unknown, Usable, NotUsable}
-use Rattle.station.specs.declared.HealthFound.{HealthFound}
-use Rattle.station.specs.declared.HealthFound.TheVariants.{Found as FoundHealth, Refused as NoHealth}
 use Rattle.station.specs.Station.{last_channel, owner_of, is_card, card_test, gate_tests, shut_says}
 use Rattle.station.specs.Queries.{record_tests, record_paper, FindsRecord, entry_tests, entry_paper, FindsEntry, tallies_paper, FindsTallies, summary_paper, FindsSummary, health_paper}
 use Rattle.station.proofs.EveryHistory.{offer_answers}
@@ -53,8 +46,7 @@ use Rattle.blocks.specs.Taking.{answer_in, after_calls, answers_to, answer_among
 use Rattle.blocks.specs.Along.{answers_in}
 use Rattle.blocks.proofs.Found.{no_number}
 use Rattle.blocks.proofs.Laws.{told_same}
-use Rattle.navigation.specs.declared.Answer.{Answer as RecordAnswer}
-use Rattle.navigation.specs.declared.Answer.TheVariants.{Written as RecordWritten, Refused as NotRecorded, Lines}
+use Rattle.navigation.specs.declared.Unwritten.TheVariants.{Refused as NotRecorded, Lines}
 use Rattle.navigation.specs.Writes.{words_at, text_at, answer_paper as navigationPaper, Writes}
 use Rattle.navigation.proofs.Laws.{laws as navigation-laws}
 use Rattle.told.specs.Told.{packed, AreBytes}
@@ -104,11 +96,11 @@ refusal_read Slot = refl
 refusal_read Owner = refl
 refusal_read Card = refl
 
-written_read : (w : Written) → read_back (packed (written_paper w)) ≡ written_paper w
-written_read Done = refl
-written_read (NotWritten q) = refusal_read q
+written_read : (w : Result ⊤ Refusal) → read_back (packed (written_paper w)) ≡ written_paper w
+written_read (Ok _) = refl
+written_read (Err q) = refusal_read q
 
-written_apart : (v w : Written) → packed (written_paper v) ≡ packed (written_paper w) → v ≡ w
+written_apart : (v w : Result ⊤ Refusal) → packed (written_paper v) ≡ packed (written_paper w) → v ≡ w
 written_apart v w e = written_same v w (sym (written_read v) ∙ ap read_back e ∙ written_read w)
 
 -- ---- health: where the lowest byte is 0 the health stands above it
@@ -122,16 +114,16 @@ low_read n l e = sym (by (eqb (n % 256) 10)) ∙ ap (λ (m : List ℕ). get_or m
     by true = refl
     by false = refl
 
-health_read_lem : (x : HealthFound) → health_read (packed (health_paper x)) ≡ health_paper x
-health_read_lem (FoundHealth Unknown) = refl
-health_read_lem (FoundHealth Usable) = refl
-health_read_lem (FoundHealth NotUsable) = refl
-health_read_lem (NoHealth q) =
+health_read_lem : (x : Result TheHealth Refusal) → health_read (packed (health_paper x)) ≡ health_paper x
+health_read_lem (Ok Unknown) = refl
+health_read_lem (Ok Usable) = refl
+health_read_lem (Ok NotUsable) = refl
+health_read_lem (Err q) =
     let n = packed (refusal_paper q) in
     let z : eqb (n % 256) 0 ≡ false = ap (λ (k : ℕ). eqb k 0) (low_read n (refusal_paper q) (refusal_read q)) ∙ (refusal_known q).1 in
     ap (λ (t : Bool). pick t (0 ∷ n / 256 ∷ []) (read_back n)) z ∙ refusal_read q
 
-health_apart : (x y : HealthFound) → health_back x ≡ health_back y → x ≡ y
+health_apart : (x y : Result TheHealth Refusal) → health_back x ≡ health_back y → x ≡ y
 health_apart x y e = health_same x y (sym (health_read_lem x) ∙ ap (λ (b : Back). health_read (number_in b)) e ∙ health_read_lem y)
 
 -- ---- a navigation record: where the lowest byte is 0 its satellite stands above it
@@ -141,10 +133,10 @@ record_low n = omega arith
 record_above : (n : ℕ) → packed (0 ∷ n ∷ []) / 256 ≡ n
 record_above n = omega arith
 
-record_read : (x : RecordAnswer) → health_read (packed (take 2 (navigationPaper x))) ≡ take 2 (navigationPaper x)
-record_read (RecordWritten n quarter) = rw (record_low n, record_above n) refl
-record_read (NotRecorded q) = ap (λ (l : List ℕ). health_read (packed l)) (refusal_two q) ∙ health_read_lem (NoHealth q) ∙ sym (refusal_two q)
-record_read Lines = refl
+record_read : (x : Result (ℕ × ℕ) Unwritten) → health_read (packed (take 2 (navigationPaper x))) ≡ take 2 (navigationPaper x)
+record_read (Ok (n, quarter)) = rw (record_low n, record_above n) refl
+record_read (Err (NotRecorded q)) = ap (λ (l : List ℕ). health_read (packed l)) (refusal_two q) ∙ health_read_lem (Err q) ∙ sym (refusal_two q)
+record_read (Err Lines) = refl
 
 -- 17 is no refusal of another call's
 no_lines : {A : Type 0} (q : Refusal) → take 2 (refusal_paper q) ≡ 17 ∷ [] → A
@@ -154,8 +146,8 @@ no_lines q e =
     let z : ◌≡◌ {A = ℕ} 16 17 = ap (λ (l : List ℕ). get_or l 0 0) d in absurd (omega (arith, z))
 
 -- and its text tells the quarter of an hour
-quarter_same : (st st' : Station) (card card' c c' n m p q : ℕ) (out out' text text' : List ℕ) → Writes st card c out (RecordWritten n p) text
-    → Writes st' card' c' out' (RecordWritten m q) text' → text ≡ text' → p ≡ q
+quarter_same : (st st' : Station) (card card' c c' n m p q : ℕ) (out out' text text' : List ℕ) → Writes st card c out (Ok (n, p)) text
+    → Writes st' card' c' out' (Ok (m, q)) text' → text ≡ text' → p ≡ q
 unfolding text_at
 quarter_same st st' card card' c c' n m p q out out' text text' f g e =
     let a = navigation-laws.written st card c out n p text f in
@@ -163,20 +155,20 @@ quarter_same st st' card card' c c' n m p q out out' text text' f g e =
     a.epoch ∙ quarter_told (words_at st c) (words_at st' c') _ _ _ _ a.in_time b.in_time (sym a.text ∙ e ∙ b.text) ∙ sym b.epoch
 
 module _ (st st' : Station) (card card' c c' : ℕ) (out out' text text' : List ℕ) where
-  same_record : (x y : RecordAnswer) → Writes st card c out x text → Writes st' card' c' out' y text' → text ≡ text'
+  same_record : (x y : Result (ℕ × ℕ) Unwritten) → Writes st card c out x text → Writes st' card' c' out' y text' → text ≡ text'
       → take 2 (navigationPaper x) ≡ take 2 (navigationPaper y) → x ≡ y
-  same_record (RecordWritten n p) (RecordWritten m q) f g t e =
-      ap₂ RecordWritten (ap (λ (l : List ℕ). get_or l 1 0) e) (quarter_same st st' card card' c c' n m p q out out' text text' f g t)
-  same_record (RecordWritten n p) (NotRecorded v) f g t e = absurd (not_taken v _ (sym (refusal_two v) ∙ sym e))
-  same_record (RecordWritten n p) Lines f g t e = let z : ◌≡◌ {A = ℕ} 0 17 = ap (λ (l : List ℕ). get_or l 0 0) e in absurd (omega (arith, z))
-  same_record (NotRecorded v) (RecordWritten m q) f g t e = absurd (not_taken v _ (sym (refusal_two v) ∙ e))
-  same_record (NotRecorded v) (NotRecorded u) f g t e = ap NotRecorded (refusal_same v u (sym (refusal_two v) ∙ e ∙ refusal_two u))
-  same_record (NotRecorded v) Lines f g t e = no_lines v e
-  same_record Lines (RecordWritten m q) f g t e = let z : ◌≡◌ {A = ℕ} 17 0 = ap (λ (l : List ℕ). get_or l 0 0) e in absurd (omega (arith, z))
-  same_record Lines (NotRecorded u) f g t e = no_lines u (sym e)
-  same_record Lines Lines f g t e = refl
+  same_record (Ok (n, p)) (Ok (m, q)) f g t e =
+      ap₂ (λ (x y : ℕ). Ok (x, y)) (ap (λ (l : List ℕ). get_or l 1 0) e) (quarter_same st st' card card' c c' n m p q out out' text text' f g t)
+  same_record (Ok (n, p)) (Err (NotRecorded v)) f g t e = absurd (not_taken v _ (sym (refusal_two v) ∙ sym e))
+  same_record (Ok (n, p)) (Err Lines) f g t e = let z : ◌≡◌ {A = ℕ} 0 17 = ap (λ (l : List ℕ). get_or l 0 0) e in absurd (omega (arith, z))
+  same_record (Err (NotRecorded v)) (Ok (m, q)) f g t e = absurd (not_taken v _ (sym (refusal_two v) ∙ e))
+  same_record (Err (NotRecorded v)) (Err (NotRecorded u)) f g t e = ap (λ (x : Refusal). Err (NotRecorded x)) (refusal_same v u (sym (refusal_two v) ∙ e ∙ refusal_two u))
+  same_record (Err (NotRecorded v)) (Err Lines) f g t e = no_lines v e
+  same_record (Err Lines) (Ok (m, q)) f g t e = let z : ◌≡◌ {A = ℕ} 17 0 = ap (λ (l : List ℕ). get_or l 0 0) e in absurd (omega (arith, z))
+  same_record (Err Lines) (Err (NotRecorded u)) f g t e = no_lines u (sym e)
+  same_record (Err Lines) (Err Lines) f g t e = refl
 
-  record_apart : (x y : RecordAnswer) → Writes st card c out x text → Writes st' card' c' out' y text' → navigation_back x text ≡ navigation_back y text' → x ≡ y
+  record_apart : (x y : Result (ℕ × ℕ) Unwritten) → Writes st card c out x text → Writes st' card' c' out' y text' → navigation_back x text ≡ navigation_back y text' → x ≡ y
   record_apart x y f g e = same_record x y f g (ap out_in e) (sym (record_read x) ∙ ap (λ (b : Back). health_read (number_in b)) e ∙ record_read y)
 
 -- ---- a field: what it led to is known by the lowest byte, what stands above it, and the place
@@ -185,7 +177,7 @@ far Tag k l e = omega (arith, l, e)
 far Length k l e = omega (arith, l, e)
 far Cut k l e = omega (arith, l, e)
 
-same_told : (at : ℕ) (t u : Told) → ((a : Answer) → t ≡ Offered a → AreBytes (answer_paper a)) → ((b : Answer) → u ≡ Offered b → AreBytes (answer_paper b))
+same_told : (at : ℕ) (t u : Told) → ((a : Result TakenString Refusal) → t ≡ Offered a → AreBytes (answer_paper a)) → ((b : Result TakenString Refusal) → u ≡ Offered b → AreBytes (answer_paper b))
     → ((v : Why) (i : ℕ) → t ≡ Refused v i → i ≡ at) → ((w : Why) (j : ℕ) → u ≡ Refused w j → j ≡ at) → lowest_of t ≡ lowest_of u → above_of t ≡ above_of u → t ≡ u
 same_told at End End m n m' n' low above = refl
 same_told at End (Offered b) m n m' n' low above = absurd (omega (arith, low))
@@ -251,7 +243,7 @@ refused_at at false false true told why place e = ap (λ (l : List ℕ). get_or 
 refused_at at false false false told why place e = absurd (no_number why (ap (λ (l : List ℕ). get_or l 0 0) e))
 
 module _ {st : Station} {card : ℕ} {block : List ℕ} {at : ℕ} {r : Taken} (t : Takes st card block at r) where
-  offered_bytes : (a : Answer) → r.told ≡ Offered a → AreBytes (answer_paper a)
+  offered_bytes : (a : Result TakenString Refusal) → r.told ≡ Offered a → AreBytes (answer_paper a)
   offered_bytes a e = answer_bytes st card (calls_at block at) (answer_paper a) (ap answers_in (sym e) ∙ its_answers t)
 
   at_place : (why : Why) (place : ℕ) → r.told ≡ Refused why place → place ≡ at
@@ -304,54 +296,54 @@ abbrev summary_by : List ℕ → Summary
 summary_by l = record { count = get_or l 0 0; oldest = get_or l 1 0; newest = get_or l 2 0 }
 
 module _ (st st' : Station) (card card' : ℕ) (out out' : List ℕ) where
-  summary_with : (room room' : Bool) → room ≡ true → room' ≡ true → (x y : SummaryFound) → FindsSummary st card x → FindsSummary st' card' y
+  summary_with : (room room' : Bool) → room ≡ true → room' ≡ true → (x y : Result Summary Refusal) → FindsSummary st card x → FindsSummary st' card' y
       → Numbers (number_told room (summary_paper x)) (pick room (summary_out x out) out) ≡ Numbers (number_told room' (summary_paper y)) (pick room' (summary_out y out') out') → x ≡ y
   unfolding FindsSummary
   summary_with false room' q w x y f g e = absurd (true≢false (sym q))
   summary_with true false q w x y f g e = absurd (true≢false (sym w))
-  summary_with true true q w (FoundSummary s) (FoundSummary t) f g e = ap (λ (b : Back). FoundSummary (summary_by (out_in b))) e
-  summary_with true true q w (FoundSummary s) (NoSummary v) f g e = no_zero v (ap number_in e)
-  summary_with true true q w (NoSummary v) (FoundSummary t) f g e = no_zero v (sym (ap number_in e))
-  summary_with true true q w (NoSummary v) (NoSummary u) f g e =
-      ap NoSummary (refusals_same (card_test card ∷ []) (card_test card' ∷ []) _ _ tt tt v u f g (ap number_in e))
+  summary_with true true q w (Ok s) (Ok t) f g e = ap (λ (b : Back). Ok (summary_by (out_in b))) e
+  summary_with true true q w (Ok s) (Err v) f g e = no_zero v (ap number_in e)
+  summary_with true true q w (Err v) (Ok t) f g e = no_zero v (sym (ap number_in e))
+  summary_with true true q w (Err v) (Err u) f g e =
+      ap Err (refusals_same (card_test card ∷ []) (card_test card' ∷ []) _ _ tt tt v u f g (ap number_in e))
 
 module _ (st st' : Station) (card card' c c' : ℕ) (out out' : List ℕ) where
-  tallies_with : (room room' : Bool) → room ≡ true → room' ≡ true → (x y : TalliesFound) → FindsTallies st card c x → FindsTallies st' card' c' y
+  tallies_with : (room room' : Bool) → room ≡ true → room' ≡ true → (x y : Result Tallies Refusal) → FindsTallies st card c x → FindsTallies st' card' c' y
       → Numbers (number_told room (tallies_paper x)) (pick room (tallies_out x out) out) ≡ Numbers (number_told room' (tallies_paper y)) (pick room' (tallies_out y out') out') → x ≡ y
   unfolding FindsTallies
   tallies_with false room' q w x y f g e = absurd (true≢false (sym q))
   tallies_with true false q w x y f g e = absurd (true≢false (sym w))
-  tallies_with true true q w (FoundTallies s) (FoundTallies t) f g e = tallies_same (FoundTallies s) (FoundTallies t) (ap (λ (b : Back). 0 ∷ out_in b) e)
-  tallies_with true true q w (FoundTallies s) (NoTallies v) f g e = no_zero v (ap number_in e)
-  tallies_with true true q w (NoTallies v) (FoundTallies t) f g e = no_zero v (sym (ap number_in e))
-  tallies_with true true q w (NoTallies v) (NoTallies u) f g e = ap NoTallies (refusals_same (gate_tests card c) (gate_tests card' c') _ _ tt tt v u f g (ap number_in e))
+  tallies_with true true q w (Ok s) (Ok t) f g e = tallies_same (Ok s) (Ok t) (ap (λ (b : Back). 0 ∷ out_in b) e)
+  tallies_with true true q w (Ok s) (Err v) f g e = no_zero v (ap number_in e)
+  tallies_with true true q w (Err v) (Ok t) f g e = no_zero v (sym (ap number_in e))
+  tallies_with true true q w (Err v) (Err u) f g e = ap Err (refusals_same (gate_tests card c) (gate_tests card' c') _ _ tt tt v u f g (ap number_in e))
 
 -- the 26 words are those of the four strings, one after the other
 abbrev words_by : List ℤ → ImmediateWords
 words_by l = record { one = string1_of l; two = string2_of (drop 5 l); three = string3_of (drop 11 l); four = string4_of (drop 18 l) }
 
 module _ (st st' : Station) (card card' c c' : ℕ) (words words' : List ℤ) (start start' : ℕ) where
-  record_with : (room room' : Bool) → room ≡ true → room' ≡ true → (x y : RecordFound) → FindsRecord st card c x → FindsRecord st' card' c' y
+  record_with : (room room' : Bool) → room ≡ true → room' ≡ true → (x y : Result (ImmediateWords × ℕ) Refusal) → FindsRecord st card c x → FindsRecord st' card' c' y
       → Started (number_told room (record_paper x)) (pick room (words_out x words) words) (pick room (start_out x start) start)
       ≡ Started (number_told room' (record_paper y)) (pick room' (words_out y words') words') (pick room' (start_out y start') start') → x ≡ y
   record_with false room' q w x y f g e = absurd (true≢false (sym q))
   record_with true false q w x y f g e = absurd (true≢false (sym w))
-  record_with true true q w (FoundRecord a s) (FoundRecord b t) f g e = ap (λ (k : Back). FoundRecord (words_by (words_in k)) (start_in k)) e
-  record_with true true q w (FoundRecord a s) (NoRecord v) f g e = no_zero v (ap number_in e)
-  record_with true true q w (NoRecord v) (FoundRecord b t) f g e = no_zero v (sym (ap number_in e))
-  record_with true true q w (NoRecord v) (NoRecord u) f g e =
-      ap NoRecord (refusals_same (record_tests st card c) (record_tests st' card' c') [] [] tt tt v u f.answer g.answer (ap number_in e))
+  record_with true true q w (Ok (a, s)) (Ok (b, t)) f g e = ap (λ (k : Back). Ok (words_by (words_in k), start_in k)) e
+  record_with true true q w (Ok (a, s)) (Err v) f g e = no_zero v (ap number_in e)
+  record_with true true q w (Err v) (Ok (b, t)) f g e = no_zero v (sym (ap number_in e))
+  record_with true true q w (Err v) (Err u) f g e =
+      ap Err (refusals_same (record_tests st card c) (record_tests st' card' c') [] [] tt tt v u f.answer g.answer (ap number_in e))
 
 module _ (st st' : Station) (card card' k k' : ℕ) (out out' : List ℤ) where
-  entry_with : (room room' : Bool) → room ≡ true → room' ≡ true → (x y : EntryFound) → FindsEntry st card k x → FindsEntry st' card' k' y
+  entry_with : (room room' : Bool) → room ≡ true → room' ≡ true → (x y : Result TheEntry Refusal) → FindsEntry st card k x → FindsEntry st' card' k' y
       → Words (number_told room (entry_paper x)) (pick room (entry_out x out) out) ≡ Words (number_told room' (entry_paper y)) (pick room' (entry_out y out') out') → SameWords x y
   entry_with false room' q w x y f g e = absurd (true≢false (sym q))
   entry_with true false q w x y f g e = absurd (true≢false (sym w))
-  entry_with true true q w (FoundEntry a) (FoundEntry b) f g e = found a b (ap words_in e)
-  entry_with true true q w (FoundEntry a) (NoEntry v) f g e = no_zero v (ap number_in e)
-  entry_with true true q w (NoEntry v) (FoundEntry b) f g e = no_zero v (sym (ap number_in e))
-  entry_with true true q w (NoEntry v) (NoEntry u) f g e =
-      subst (λ (z : Refusal). SameWords (NoEntry v) (NoEntry z))
+  entry_with true true q w (Ok a) (Ok b) f g e = found a b (ap words_in e)
+  entry_with true true q w (Ok a) (Err v) f g e = no_zero v (ap number_in e)
+  entry_with true true q w (Err v) (Ok b) f g e = no_zero v (sym (ap number_in e))
+  entry_with true true q w (Err v) (Err u) f g e =
+      subst (λ (z : Refusal). SameWords (Err v) (Err z))
       (refusals_same (entry_tests st card k) (entry_tests st' card' k') _ _ tt tt v u f.answer g.answer (ap number_in e))
       (refused v)
 

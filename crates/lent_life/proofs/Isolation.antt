@@ -10,6 +10,11 @@ use lib.Dec.{eqb}
 use lib.IntN.{ℤ, nat_abs}
 use lib.ListN.{length, get_or}
 use Rattle.strings.specs.Pick.{pick}
+use Rattle.tallies.specs.declared.Tallies.{Tallies as TheTallies}
+use Rattle.records.specs.declared.named.ImmediateWords.{ImmediateWords}
+use Rattle.strings.specs.declared.Refusal.{Refusal}
+use Rattle.channel.specs.declared.TakenString.{TakenString}
+use Rattle.std.specs.Prelude.{Result}
 use Rattle.strings.specs.Numbers.{Test, test, first_of, answer_of}
 use Rattle.fields.specs.Block.{Call, Offer as InOffer, Reset as InReset}
 use Rattle.book.specs.declared.Book.{Book as TheBook}
@@ -18,7 +23,6 @@ use Rattle.book.specs.Book.{in_slot}
 use Rattle.words.specs.Immediate.{immediate_of}
 use Rattle.immediate.specs.Kept.{has_record}
 use Rattle.summary.specs.declared.Summary.{Summary as TheSummary}
-use Rattle.channel.specs.declared.Answer.{Answer}
 use Rattle.channel.specs.declared.Row.{Row}
 use Rattle.channel.specs.Row.{frame_of}
 use Rattle.channel.specs.Offers.{answer_paper}
@@ -26,8 +30,6 @@ use Rattle.channel.proofs.HeldFrame.{first_said}
 use Rattle.rinex.specs.Record.{record_text}
 use Rattle.wire.specs.Bytes.{book_from}
 use Rattle.station.specs.declared.Station.{Station}
-use Rattle.station.specs.declared.RecordFound.{RecordFound}
-use Rattle.station.specs.declared.TalliesFound.{TalliesFound}
 use Rattle.station.specs.Station.{fresh_station, row_at, is_served, gate_tests, shut_says, station_after, station_reset}
 use Rattle.station.specs.Queries.{kept_at, is_slot, is_empty, summary_numbers, health_by, health_number}
 use Rattle.station.specs.Demand1.{WellMade}
@@ -132,7 +134,7 @@ module _ (card : ℕ) (st st' : Station) (w : WellMade st) (w' : WellMade st') (
       let a = (lent-laws.as_offered st card c epoch s (left_by st call) (number_in (back_of st call))).0 (record { answer = refl; station = refl }) in
       let b = (lent-laws.as_offered st' card c epoch s (left_by st' call) (number_in (back_of st' call))).0 (record { answer = refl; station = refl }) in
       let k = (demands.answered_alike card st st' w w' agree).offers c epoch s a.step b.step a.offers b.offers in
-      (ap Number (a.answer ∙ ap (λ (x : Answer). packed (answer_paper x)) k.0 ∙ sym b.answer), both a.station b.station k.1)
+      (ap Number (a.answer ∙ ap (λ (x : Result TakenString Refusal). packed (answer_paper x)) k.0 ∙ sym b.answer), both a.station b.station k.1)
 
   own_reset : (c : ℕ) → Alike (Reset card c)
   own_reset c =
@@ -154,7 +156,7 @@ module _ (card : ℕ) (st st' : Station) (w : WellMade st) (w' : WellMade st') (
       let a = (demands.station_answers st).tallies_of card c in
       let b = (demands.station_answers st').tallies_of card c in
       sym (value_are st _ _ (tallies' st card c out a.answer a.fits))
-      ∙ ap (λ (x : TalliesFound). tallies_back x out) ((demands.answered_alike card st st' w w' agree).tallies c a.answer b.answer a.fits b.fits)
+      ∙ ap (λ (x : Result TheTallies Refusal). tallies_back x out) ((demands.answered_alike card st st' w w' agree).tallies c a.answer b.answer a.fits b.fits)
       ∙ value_are st' _ _ (tallies' st' card c out b.answer b.fits)
 
   own_record : (c : ℕ) (words : List ℤ) (start : ℕ) → told_to st (Immediate card c words start) ≡ told_to st' (Immediate card c words start)
@@ -162,7 +164,7 @@ module _ (card : ℕ) (st st' : Station) (w : WellMade st) (w' : WellMade st') (
       let a = (demands.station_answers st).immediate_of_lem card c in
       let b = (demands.station_answers st').immediate_of_lem card c in
       sym (value_are st _ _ (immediate' st card c words start a.answer a.fits))
-      ∙ ap (λ (x : RecordFound). record_back x words start) ((demands.answered_alike card st st' w w' agree).records c a.answer b.answer a.fits b.fits)
+      ∙ ap (λ (x : Result (ImmediateWords × ℕ) Refusal). record_back x words start) ((demands.answered_alike card st st' w w' agree).records c a.answer b.answer a.fits b.fits)
       ∙ value_are st' _ _ (immediate' st' card c words start b.answer b.fits)
 
   own_asked : (q : Question) → is_own card (Ask q) ≡ true → told_to st q ≡ told_to st' q

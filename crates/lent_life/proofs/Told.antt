@@ -10,6 +10,11 @@ use lib.Dec.{T, eqb}
 use lib.IntN.{ℤ}
 use lib.ListN.{length, get_or, drop}
 use Rattle.strings.specs.Pick.{pick, is_one_of}
+use Rattle.summary.specs.declared.Summary.{Summary as TheSummary}
+use Rattle.tallies.specs.declared.Tallies.{Tallies as TheTallies}
+use Rattle.book.specs.declared.Entry.{Entry as TheEntry}
+use Rattle.records.specs.declared.named.ImmediateWords.{ImmediateWords}
+use Rattle.std.specs.Prelude.{Result, Ok, Err}
 use Rattle.strings.specs.declared.Refusal.{Refusal}
 use Rattle.strings.specs.Numbers.{refusal_paper, Test, test, first_of, place_of, said_by, answer_of}
 use Rattle.strings.proofs.Answer.{not_taken}
@@ -22,14 +27,6 @@ use Rattle.book.specs.Book.{in_slot}
 use Rattle.wire.specs.Bytes.{book_bytes}
 use Rattle.immediate.specs.Kept.{has_record}
 use Rattle.station.specs.declared.Station.{Station}
-use Rattle.station.specs.declared.RecordFound.{RecordFound}
-use Rattle.station.specs.declared.RecordFound.TheVariants.{Found as FoundRecord, Refused as NoRecord}
-use Rattle.station.specs.declared.EntryFound.{EntryFound}
-use Rattle.station.specs.declared.EntryFound.TheVariants.{Found as FoundEntry, Refused as NoEntry}
-use Rattle.station.specs.declared.TalliesFound.{TalliesFound}
-use Rattle.station.specs.declared.TalliesFound.TheVariants.{Found as FoundTallies, Refused as NoTallies}
-use Rattle.station.specs.declared.SummaryFound.{SummaryFound}
-use Rattle.station.specs.declared.SummaryFound.TheVariants.{Found as FoundSummary, Refused as NoSummary}
 use Rattle.station.specs.Station.{row_at, card_test, gate_tests}
 use Rattle.station.specs.Queries.{kept_at, record_tests, record_paper, FindsRecord, is_empty, entry_tests, three_numbers, entry_paper, FindsEntry, all_counts, tallies_paper, FindsTallies, summary_numbers, summary_paper, FindsSummary, health_by, health_number, FindsHealth}
 use Rattle.station.proofs.Demands.{demands}
@@ -151,47 +148,47 @@ module _ (tests : List Test) (told : List ℕ) where
   refused : {Y : Type 0} (why : Refusal) (made out : Y) → refusal_paper why ≡ answer_of tests told → out ≡ pick (eqb (first_of tests) 0) made out
   refused why made out e = ap (λ (t : Bool). pick t made out) (sym (refused_is why (first_of tests) (place_of tests) told e))
 
-summary_out_lem : (st : Station) (card : ℕ) (out : List ℕ) (x : SummaryFound) → FindsSummary st card x
+summary_out_lem : (st : Station) (card : ℕ) (out : List ℕ) (x : Result TheSummary Refusal) → FindsSummary st card x
     → summary_out x out ≡ pick (eqb (first_of (card_test card ∷ [])) 0) (summary_numbers st.summary) out
 unfolding FindsSummary
-summary_out_lem st card out (FoundSummary s) f =
+summary_out_lem st card out (Ok s) f =
     let ts = card_test card ∷ [] in
     let m = summary_numbers st.summary in
     let w = taken_first ts m (summary_numbers s) f in found ts m m out (summary_numbers s) w.0 w.1
-summary_out_lem st card out (NoSummary why) f = refused (card_test card ∷ []) (summary_numbers st.summary) why (summary_numbers st.summary) out f
+summary_out_lem st card out (Err why) f = refused (card_test card ∷ []) (summary_numbers st.summary) why (summary_numbers st.summary) out f
 
-tallies_out_lem : (st : Station) (card c : ℕ) (out : List ℕ) (x : TalliesFound) → FindsTallies st card c x
+tallies_out_lem : (st : Station) (card c : ℕ) (out : List ℕ) (x : Result TheTallies Refusal) → FindsTallies st card c x
     → tallies_out x out ≡ pick (eqb (first_of (gate_tests card c)) 0) (all_counts (row_at st c).tallies) out
 unfolding FindsTallies
-tallies_out_lem st card c out (FoundTallies t) f =
+tallies_out_lem st card c out (Ok t) f =
     let ts = gate_tests card c in
     let m = all_counts (row_at st c).tallies in
     let w = taken_first ts m (all_counts t) f in found ts m m out (all_counts t) w.0 w.1
-tallies_out_lem st card c out (NoTallies why) f = refused (gate_tests card c) (all_counts (row_at st c).tallies) why (all_counts (row_at st c).tallies) out f
+tallies_out_lem st card c out (Err why) f = refused (gate_tests card c) (all_counts (row_at st c).tallies) why (all_counts (row_at st c).tallies) out f
 
-entry_out_lem : (st : Station) (card k : ℕ) (out : List ℤ) (x : EntryFound) → FindsEntry st card k x
+entry_out_lem : (st : Station) (card k : ℕ) (out : List ℤ) (x : Result TheEntry Refusal) → FindsEntry st card k x
     → entry_out x out ≡ pick (eqb (first_of (entry_tests st card k)) 0) (entry_numbers (in_slot st.book k)) out
-entry_out_lem st card k out (FoundEntry e) f =
+entry_out_lem st card k out (Ok e) f =
     let ts = entry_tests st card k in
     let m = three_numbers (meaning (in_slot st.book k)) in
     let w = taken_first ts m (three_numbers (meaning e)) f.answer in
     found ts m (entry_numbers (in_slot st.book k)) out (entry_numbers e) w.0 (ap entry_numbers (f.entry e refl))
-entry_out_lem st card k out (NoEntry why) f =
+entry_out_lem st card k out (Err why) f =
     refused (entry_tests st card k) (three_numbers (meaning (in_slot st.book k))) why (entry_numbers (in_slot st.book k)) out f.answer
 
-words_out_lem : (st : Station) (card c : ℕ) (out : List ℤ) (x : RecordFound) → FindsRecord st card c x
+words_out_lem : (st : Station) (card c : ℕ) (out : List ℤ) (x : Result (ImmediateWords × ℕ) Refusal) → FindsRecord st card c x
     → words_out x out ≡ pick (eqb (first_of (record_tests st card c)) 0) (words_list (immediate_of (kept_at st c).strings)) out
-words_out_lem st card c out (FoundRecord w s) f =
+words_out_lem st card c out (Ok (w, s)) f =
     let ts = record_tests st card c in
     found ts [] (words_list (immediate_of (kept_at st c).strings)) out (words_list w) (taken_first ts [] [] f.answer).0 (ap words_list (f.words w s refl).0)
-words_out_lem st card c out (NoRecord why) f = refused (record_tests st card c) [] why (words_list (immediate_of (kept_at st c).strings)) out f.answer
+words_out_lem st card c out (Err why) f = refused (record_tests st card c) [] why (words_list (immediate_of (kept_at st c).strings)) out f.answer
 
-start_out_lem : (st : Station) (card c : ℕ) (was : ℕ) (x : RecordFound) → FindsRecord st card c x
+start_out_lem : (st : Station) (card c : ℕ) (was : ℕ) (x : Result (ImmediateWords × ℕ) Refusal) → FindsRecord st card c x
     → start_out x was ≡ pick (eqb (first_of (record_tests st card c)) 0) (kept_at st c).start was
-start_out_lem st card c was (FoundRecord w s) f =
+start_out_lem st card c was (Ok (w, s)) f =
     let ts = record_tests st card c in
     found ts [] (kept_at st c).start was s (taken_first ts [] [] f.answer).0 (f.words w s refl).1
-start_out_lem st card c was (NoRecord why) f = refused (record_tests st card c) [] why (kept_at st c).start was f.answer
+start_out_lem st card c was (Err why) f = refused (record_tests st card c) [] why (kept_at st c).start was f.answer
 
 -- ---- what a question tells
 abbrev pub entry_tests' : Station → ℕ → ℕ → List ℤ → List Test

@@ -7,12 +7,12 @@ use borrow.Author.Tests.{ne_eqb}
 use lib.Dec.{ltb, ltb→lt}
 use lib.ListN.{length, get_or, take}
 use Rattle.strings.specs.Numbers.{Test, first_of, place_of, said_by, answer_of, left_by, Answers, Exactly}
+use Rattle.navigation.specs.declared.Unwritten.{Unwritten}
+use Rattle.std.specs.Prelude.{Result, Ok}
 use Rattle.strings.proofs.Answer.{exactly}
 use Rattle.strings.proofs.Tests.{first_of_lem}
 use Rattle.channel.proofs.HeldFrame.{first_said}
 use Rattle.station.specs.declared.Station.{Station}
-use Rattle.navigation.specs.declared.Answer.{Answer}
-use Rattle.navigation.specs.declared.Answer.TheVariants.{Written}
 use Rattle.navigation.specs.Writes.{n_at, quarter_at, record_tests, text_at, answer_paper, Writes}
 use Rattle.told.specs.Told.{packed}
 use Rattle.lent_navigation.specs.Lent.{TellsNavigation}
@@ -31,7 +31,7 @@ module _ (st : Station) (card c : ℕ) (out out' : List ℕ) (r : ℕ) (t : Tell
   abbrev told : List ℕ
   told = n_at st c ∷ []
 
-  same : (out'' : List ℕ) (x : Answer) → Writes st card c out x out'' → (out' ≡ out'') × (r ≡ packed (take 2 (answer_paper x)))
+  same : (out'' : List ℕ) (x : Result (ℕ × ℕ) Unwritten) → Writes st card c out x out'' → (out' ≡ out'') × (r ≡ packed (take 2 (answer_paper x)))
   unfolding Writes
   same out'' x w = (
     t.output ∙ sym (left_is (first_of tests) (text_at st c) out) ∙ sym w.output,
@@ -41,7 +41,7 @@ module _ (st : Station) (card c : ℕ) (out out' : List ℕ) (r : ℕ) (t : Tell
   number_is : r % 256 ≡ first_of tests
   number_is = ap (λ (k : ℕ). k % 256) t.answer ∙ low_byte (first_of tests) (place_of tests) told (ltb→lt (first_of tests) 256 (first_of_lem (λ (k : ℕ). ltb k 256) tests tt tt))
 
-  number : (out'' : List ℕ) (x : Answer) → Writes st card c out x out'' → r % 256 ≡ get_or (answer_paper x) 0 0
+  number : (out'' : List ℕ) (x : Result (ℕ × ℕ) Unwritten) → Writes st card c out x out'' → r % 256 ≡ get_or (answer_paper x) 0 0
   unfolding Writes
   number out'' x w = number_is ∙ sym (ap (λ (l : List ℕ). get_or l 0 0) w.answer ∙ first_said tests (n_at st c ∷ quarter_at st c ∷ []))
 
@@ -59,8 +59,8 @@ module _ (st : Station) (card c : ℕ) (out out' : List ℕ) (r : ℕ) (t : Tell
   untouched f = t.output ∙ rw (ne_eqb (first_of tests) 0 (λ z. f (number_is ∙ z)))
 
   -- what a record's answer is
-  written : (n quarter : ℕ) (out'' : List ℕ) → Writes st card c out (Written n quarter) out'' → r ≡ 256 * n
-  written n quarter out'' w = (same out'' (Written n quarter) w).1 ∙ sym (written_two n quarter)
+  written : (n quarter : ℕ) (out'' : List ℕ) → Writes st card c out (Ok (n, quarter)) out'' → r ≡ 256 * n
+  written n quarter out'' w = (same out'' (Ok (n, quarter)) w).1 ∙ sym (written_two n quarter)
 
 pub laws : Laws
 laws =

@@ -11,6 +11,8 @@ use borrow.Author.Tests.{ne_eqb}
 use lib.Dec.{T, eqb}
 use lib.ListN.{length, take}
 use Rattle.strings.specs.Pick.{pick}
+use Rattle.navigation.specs.declared.Unwritten.{Unwritten}
+use Rattle.std.specs.Prelude.{Result, Ok}
 use Rattle.strings.specs.declared.Refusal.{Refusal}
 use Rattle.strings.specs.declared.Refusal.TheVariants.{Channel, Shape, Damaged, Idle, Number, Early, Stale, OffBeat, Conflict, Range, Place, Room, Nothing, Slot, Owner, Card}
 use Rattle.strings.specs.Numbers.{refusal_paper, Test, first_of, place_of, said_by, answer_of, left_by}
@@ -25,8 +27,6 @@ use Rattle.channel.specs.Row.{is_present, still_holds}
 use Rattle.station.specs.declared.Station.{Station}
 use Rattle.navigation_queries.specs.Five.{has_five, five_of}
 use Rattle.navigation_queries.proofs.Five.{text_there}
-use Rattle.navigation.specs.declared.Answer.{Answer}
-use Rattle.navigation.specs.declared.Answer.TheVariants.{Written}
 use Rattle.navigation.specs.Writes.{answer_paper}
 use Rattle.navigation.specs.Gathers.{all_tests, WritesAll, AsRead}
 use Rattle.navigation.proofs.Read.{as_read}
@@ -66,7 +66,7 @@ two_told ts n quarter s = by (first_of ts) (place_of ts) (short_place ts s)
     by (suc k) p e = ap (λ (l : List ℕ). suc k ∷ l) e
 
 -- of a record, and of a refusal
-pub written_two : (n quarter : ℕ) → 256 * n ≡ packed (take 2 (answer_paper (Written n quarter)))
+pub written_two : (n quarter : ℕ) → 256 * n ≡ packed (take 2 (answer_paper (Ok (n, quarter))))
 written_two n quarter = omega arith
 
 pub refusal_two : (why : Refusal) → take 2 (refusal_paper why) ≡ refusal_paper why
@@ -97,7 +97,7 @@ module _ (row : Row) (e : Entry) (out : List ℕ) where
   pub put_missing : is_there_in row e ≡ false → PutsNavigation row e out out 13
   put_missing q = record { answer = rw q; output = rw q }
 
-  pub put_written : (a : Answer) (out' : List ℕ) (r : ℕ) → is_there_in row e ≡ true → WritesAll (words_in row) (n4_in row) (odd_words (meaning e)).h out a out'
+  pub put_written : (a : Result (ℕ × ℕ) Unwritten) (out' : List ℕ) (r : ℕ) → is_there_in row e ≡ true → WritesAll (words_in row) (n4_in row) (odd_words (meaning e)).h out a out'
       → r ≡ packed (take 2 (answer_paper a)) → PutsNavigation row e out out' r
   unfolding WritesAll
   put_written a out' r q g t =

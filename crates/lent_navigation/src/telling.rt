@@ -6,13 +6,13 @@ ghost use Rattle.lent_navigation.specs.Lent.{PutsNavigation};
 
 use book::{Entry, odd_words};
 use channel::Row;
-use navigation::{Answer, write_all};
+use navigation::{Unwritten, write_all};
 use navigation_queries::{five_words, has_five};
 use told::refusal_told;
 use words::immediate_words;
 
 // The record of a row's satellite, of which e is the entry: 13 NOTHING where string 5 of the record's frame
-// is missing, or the entry is.
+// is missing, or the entry is. C is told one number.
 pub fn put_navigation(row: Row, e: Entry, out: &mut [u8]) -> u64
     ensures { PutsNavigation row e out.old out.new result }
 {
@@ -32,12 +32,12 @@ pub fn put_navigation(row: Row, e: Entry, out: &mut [u8]) -> u64
 }
 
 // The first two of its numbers: the third, the quarter of an hour, is above a byte.
-fn navigation_told(a: Answer) -> u64
+fn navigation_told(a: Result<(u8, u32), Unwritten>) -> u64
     ensures { result ≡ packed (take 2 (answer_paper a)) }
 {
     match a {
-        Answer::Written(n, _) => 256 * (n as u64),
-        Answer::Refused(why) => refusal_told(why) as u64,
-        Answer::Lines => 17,
+        Ok((n, _)) => 256 * (n as u64),
+        Err(Unwritten::Refused(why)) => refusal_told(why) as u64,
+        Err(Unwritten::Lines) => 17,
     }
 }

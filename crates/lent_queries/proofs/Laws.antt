@@ -8,14 +8,16 @@ use borrow.Author.Tests.{eq-eqb, ne_eqb}
 use lib.Dec.{T, eqb}
 use lib.ListN.{length, get_or}
 use Rattle.strings.specs.Pick.{pick}
+use Rattle.book.specs.declared.Entry.{Entry}
+use Rattle.strings.specs.declared.Refusal.{Refusal}
+use Rattle.records.specs.declared.named.ImmediateWords.{ImmediateWords}
+use Rattle.std.specs.Prelude.{Result}
 use Rattle.strings.specs.Numbers.{Test, test, first_of, place_of, said_by, answer_of}
 use Rattle.strings.proofs.Tests.{placeless, no_place}
 use Rattle.words.specs.Immediate.{immediate_of}
 use Rattle.immediate.specs.Kept.{has_record}
 use Rattle.book.specs.Entry.{meaning}
 use Rattle.book.specs.Book.{in_slot}
-use Rattle.station.specs.declared.RecordFound.{RecordFound}
-use Rattle.station.specs.declared.EntryFound.{EntryFound}
 use Rattle.station.specs.Station.{row_at, card_test, gate_tests}
 use Rattle.station.specs.Queries.{kept_at, record_paper, is_empty, three_numbers, entry_paper, all_counts, FindsTallies, summary_numbers, FindsSummary, FindsHealth}
 use Rattle.told.specs.Told.{packed}
@@ -72,7 +74,7 @@ laws = record {
       let made = entry_numbers (in_slot st.book k) in
       let n = ap (λ (l : List ℕ). get_or l 0 0) f.answer ∙ begins (first_of (us ++ ts)) (place_of (us ++ ts)) (three_numbers (meaning (in_slot st.book k))) in (
         n ∙ sym (same_number us ts 13 out made out out' r e tt g),
-        λ y q. found us ts 13 out made out out' r e tt g (sym n ∙ ap (λ (z : EntryFound). get_or (entry_paper z) 0 0) q) ∙ ap entry_numbers (sym (f.entry y q)),
+        λ y q. found us ts 13 out made out out' r e tt g (sym n ∙ ap (λ (z : Result Entry Refusal). get_or (entry_paper z) 0 0) q) ∙ ap entry_numbers (sym (f.entry y q)),
       );
   immediate = λ st card c words start words' start' r x e f g.
       let us = gate_tests card c in
@@ -81,7 +83,7 @@ laws = record {
       let n = ap (λ (l : List ℕ). get_or l 0 0) f.answer ∙ begins (first_of (us ++ ts)) (place_of (us ++ ts)) [] in (
         n ∙ sym (same_number us ts 26 words made words words' r e tt g.raw),
         λ w s q.
-            let z = sym n ∙ ap (λ (y : RecordFound). get_or (record_paper y) 0 0) q in
+            let z = sym n ∙ ap (λ (y : Result (ImmediateWords × ℕ) Refusal). get_or (record_paper y) 0 0) q in
             let v = f.words w s q in
             (found us ts 26 words made words words' r e tt g.raw z ∙ ap words_list (sym v.0), found us ts 26 words (kept_at st c).start start start' r e tt g.begins z ∙ sym v.1),
       );

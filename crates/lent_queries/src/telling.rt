@@ -1,5 +1,5 @@
 // What is told of a part that was copied out: numbers written into an output of the host's, or in one
-// number. An output that has not the wanted number of elements is told 12 ROOM, and left as it was.
+// number, which is C's only way to be told of a refusal. An output that has not the wanted number of elements is told 12 ROOM, and left as it was.
 ghost use Rattle.std.specs.Prelude.{◌≡◌, ◌*◌, ◌≤◌, length, [], ◌∷◌};
 ghost use Rattle.strings.specs.Numbers.{first_of};
 ghost use Rattle.book.specs.Book.{slots};
@@ -76,19 +76,8 @@ fn put_all(made: &[u32], out: &mut [u32]) -> u64
     if out.len() != made.len() {
         return 12;
     }
-    copy_all(made, out);
+    out.copy_from_slice(made);
     0
-}
-
-fn copy_all(made: &[u32], out: &mut [u32])
-    requires { length out.old ≡ length made.now }
-    ensures { out.new ≡ made.now }
-{
-    let mut i = 0;
-    while i < made.len() {
-        out[i] = made[i];
-        i += 1;
-    }
 }
 
 // An entry: its day, the words of its even half, and those of its odd half but for the sender's l. 12
@@ -103,7 +92,7 @@ pub fn put_entry(e: Entry, out: &mut [i32]) -> u64
         return 13;
     }
     let made = entry_list(e.day, even_words(e), odd_words(e));
-    copy_words(&made, out);
+    out.copy_from_slice(&made);
     0
 }
 
@@ -130,7 +119,7 @@ pub fn put_record(row: Row, words: &mut [i32], start: &mut u32) -> u64
     }
     let s = kept.strings;
     let made = record_list(immediate_words(s));
-    copy_words(&made, words);
+    words.copy_from_slice(&made);
     *start = kept.start;
     0
 }
@@ -148,18 +137,8 @@ fn record_list(w: ImmediateWords) -> [i32; 26]
     ]
 }
 
-fn copy_words(made: &[i32], out: &mut [i32])
-    requires { length out.old ≡ length made.now }
-    ensures { out.new ≡ made.now }
-{
-    let mut i = 0;
-    while i < made.len() {
-        out[i] = made[i];
-        i += 1;
-    }
-}
-
-// The slot of the satellite that a row's record is of; 0 where there is no record, or its n is no slot.
+// The slot of the satellite that a row's record is of; 0 where there is no record, or its n is no slot, as in
+// `slot_of` of specs/Health.antt, of which the theorems speak.
 pub fn slot_of(row: Row) -> usize
     ensures { (result ≡ slot_of row.immediate) × (result ≤ slots) }
 {

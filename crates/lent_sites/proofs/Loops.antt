@@ -1,12 +1,10 @@
--- The loops over a lent station, turn by turn. The rows from the first on become empty (Emptied: emptied-none, emptied-more, emptied-all). The book's entries
--- from the first on become the greater of the two, in their place (Partly: partly_none, partly_more, partly-all), and the entry that a turn reads is the other
--- book's (read_at).
+-- A lent station whose rows are all empty (emptied_all). The book's entries from the first on become the greater of the two, in their place (Partly:
+-- partly_none, partly_more, partly_all), and the entry that a turn reads is the other book's (read_at).
 -- Assumes nothing.
 use mathlib.Core.Path.{◌≡◌, refl, sym, ap, ap₂, ◌∙◌}
-use mathlib.Core.List.{List, [], ◌∷◌, ◌++◌}
+use mathlib.Core.List.{List}
 use Prim.Native.Nat.{ℕ, zero, suc, ◌+◌, ◌*◌, ◌≤◌, ◌<◌}
 use native.Mathlib.Nat.{not-suc-le-zero, le_of_suc-le-suc}
-use native.Mathlib.Numerals.{add-one}
 use native.Mathlib.Omega.{arith}
 use lib.ListN.{length, get_or, set, take, drop, replicate}
 use lib.Seq.{drop-drop, get_or-set_other}
@@ -18,39 +16,18 @@ use Rattle.summary.specs.declared.Summary.{Summary}
 use Rattle.summary.specs.Walk.{none_filled}
 use Rattle.channel.specs.declared.Row.{Row}
 use Rattle.channel.specs.Row.{empty_row}
-use Rattle.station.specs.declared.Station.{Station}
 use Rattle.station.specs.Station.{channels, fresh_station}
 use Rattle.wire.specs.Bytes.{entry_from, entries_from}
-use Rattle.wire.proofs.Begun.{Begun, begun_none, begun_set, begun_all}
 use Rattle.sites.specs.Joining.{kept_of, join_books}
 use Rattle.sites.proofs.Slots.{Passed, begins, goes_on, ends}
 
--- ---- the rows
-replicate_more : {X : Type 0} (n : ℕ) (x : X) → replicate (suc n) x ≡ replicate n x ++ (x ∷ [])
-replicate_more zero x = refl
-replicate_more (suc n) x = ap (λ (l : List _). x ∷ l) (replicate_more n x)
-
-abbrev pub Emptied : ℕ → List Row → Type 0
-Emptied i rs = Begun channels i rs (replicate i empty_row)
-
-pub emptied_none : (rs : List Row) → length rs ≡ channels → Emptied 0 rs
-emptied_none rs l = begun_none rs l
-
-pub emptied_more : (i : ℕ) (rs : List Row) (r : Row) → i < channels → r ≡ empty_row → Emptied i rs → Emptied (i + 1) (set rs i r)
-emptied_more i rs r l e b = rw (add-one i, replicate_more i empty_row, e) (begun_set empty_row l b)
-
--- how many rows there are is known in a turn, and not before the first
-pub emptied_begun : (i : ℕ) (rs : List Row) → length rs ≡ channels → (0 < i → Emptied i rs) → Emptied i rs
-emptied_begun zero rs l f = emptied_none rs l
-emptied_begun (suc i) rs l f = f (omega arith)
-
--- a station of empty rows, an empty book and a summary of nothing
+-- ---- a station of empty rows, an empty book and a summary of nothing
 abbrev pub no_summary : Summary
 no_summary = record { count = 0; oldest = 0; newest = 0 }
 
-pub emptied_all : (rs : List Row) (b : Book) → Emptied channels rs → b ≡ empty_book → record { rows = rs; book = b; summary = no_summary } ≡ fresh_station
+pub emptied_all : (rs : List Row) (b : Book) → rs ≡ replicate channels empty_row → b ≡ empty_book → record { rows = rs; book = b; summary = no_summary } ≡ fresh_station
 unfolding fresh_station none_filled
-emptied_all rs b g e = ap₂ (λ (rs : List Row) (b : Book). record { rows = rs; book = b; summary = no_summary }) (begun_all g) e
+emptied_all rs b g e = ap₂ (λ (rs : List Row) (b : Book). record { rows = rs; book = b; summary = no_summary }) g e
 
 -- ---- the entries
 -- the first i are joined, the others as they were
@@ -72,15 +49,6 @@ partly_more xs ys i es e l q p =
 
 pub partly_all : (xs ys : List Entry) (es : List Entry) → Partly xs ys slots es → es ≡ (join_books (record { entries = xs }) (record { entries = ys })).entries
 partly_all xs ys es p = ends xs ys slots es (omega arith) p.passed
-
--- and likewise of the entries
-pub partly_begun : (xs ys : List Entry) (i : ℕ) (es : List Entry) → length es ≡ slots → (i ≡ 0 → es ≡ xs) → (0 < i → Partly xs ys i es) → Partly xs ys i es
-partly_begun xs ys zero es l e f = let q = e refl in rw q (partly_none xs ys (ap length (sym q) ∙ l))
-partly_begun xs ys (suc i) es l e f = f (omega arith)
-
--- a station with these entries
-abbrev pub left : Station → List Entry → Station
-left st es = record { rows = st.rows; book = record { entries = es }; summary = st.summary }
 
 -- the entry read in a turn
 pub read_at : (n i : ℕ) (s : List ℕ) → i < n → entry_from (take 20 (drop (i * 20) s)) ≡ get_or (entries_from n s) i blank

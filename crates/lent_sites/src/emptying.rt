@@ -3,7 +3,7 @@ ghost use Rattle.lent_sites.specs.Lent.{FreshLent};
 
 use book::empty_book;
 use channel::empty_row;
-use station::{CHANNELS, Station};
+use station::Station;
 use summary::Summary;
 
 // Leaves the station as one that has heard nothing, whatever it was.
@@ -11,9 +11,7 @@ use summary::Summary;
 pub extern "C" fn spineyarrow_fresh(st: &mut Station)
     ensures { FreshLent st.new }
 {
-    for i in 0..CHANNELS {
-        st.rows[i] = empty_row();
-    }
+    st.rows.fill(empty_row());
     st.book = empty_book();
     st.summary = Summary {
         count: 0,

@@ -2,7 +2,7 @@
 ghost use Rattle.std.specs.Prelude.{◌≡◌, length};
 ghost use Rattle.lent_sites.specs.Lent.{JoinsLent, JoinsEntries};
 
-use book::{SLOTS, greater_of};
+use book::{Entry, greater_of};
 use lent::sum_up;
 use station::Station;
 use wire::{BOOK_BYTES, entry_at};
@@ -25,7 +25,8 @@ fn join_entries(st: &mut Station, book: &[u8])
     requires { length book.now ≡ 480 }
     ensures { JoinsEntries st.old book.now st.new }
 {
-    for i in 0..SLOTS {
-        st.book.entries[i] = greater_of(st.book.entries[i], entry_at(book, i));
+    let entries: &mut [Entry] = &mut st.book.entries;
+    for (i, entry) in entries.iter_mut().enumerate() {
+        *entry = greater_of(*entry, entry_at(book, i));
     }
 }

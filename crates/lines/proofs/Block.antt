@@ -2,11 +2,11 @@
 -- Assumes nothing.
 use mathlib.Core.Path.{◌≡◌, refl, sym, ap, ap₂, subst, ◌∙◌}
 use mathlib.Core.List.{List, ◌++◌}
-use Prim.Native.Nat.{ℕ, ◌+◌, ◌-◌, ◌*◌, ◌/◌, ◌%◌, ◌≤◌}
+use Prim.Native.Nat.{ℕ, ◌+◌, ◌*◌, ◌/◌, ◌%◌, ◌≤◌}
 use native.Mathlib.Nat.{zero-add}
 use native.Mathlib.Numerals.{add-one}
 use native.Mathlib.Omega.{arith}
-use lib.ListN.{length, take, drop}
+use lib.ListN.{length, take}
 use lib.Seq.{length-take-le, length-sets}
 use Rattle.station.specs.declared.Station.{Station}
 use Rattle.digits.specs.Text.{Puts}
@@ -16,10 +16,6 @@ use Rattle.lines.specs.Line.{Lists}
 use Rattle.lines.specs.Text.{line_bytes, line_text, left_over, record_at, station_at, lines_at, listing, Prints}
 use Rattle.lines.proofs.Tells.{line_is}
 use Rattle.digits.proofs.Pieces.{puts_as, puts_more, puts_none}
-
--- the bytes of record i, as the code takes them
-abbrev pub sixteen : List ℕ → ℕ → List ℕ
-sixteen input i = take (i * 16 + 16 - i * 16) (drop (i * 16) input)
 
 -- the first i records are printed
 pub record SoFar (st : Station) (input text₀ text : List ℕ) (after : Station) (end i : ℕ) : Type 0 where
@@ -33,13 +29,12 @@ module _ {st : Station} {input text₀ : List ℕ} where
   none_yet = record { station = refl; lines = puts_none; bound = omega arith }
 
   -- one record more
-  pub one_more_lem : {text text' : List ℕ} {after : Station} {end end' i : ℕ} (r : Listed) → SoFar st input text₀ text after end i
-      → Lists after (sixteen input i) r → Puts text end (line_text r.line) text' end' → end' ≤ end + line_bytes
+  pub one_more_lem : {text text' rec : List ℕ} {after : Station} {end end' i : ℕ} (r : Listed) → SoFar st input text₀ text after end i
+      → rec ≡ record_at input i → Lists after rec r → Puts text end (line_text r.line) text' end' → end' ≤ end + line_bytes
       → SoFar st input text₀ text' r.station end' (i + 1)
   unfolding station_at lines_at
-  one_more_lem {after = after} {i = i} r s l p b =
-      let e : i * 16 + 16 - i * 16 ≡ 16 = omega arith in
-      let m : Lists after (record_at input i) r = subst (λ (k : ℕ). Lists after (take k (drop (i * 16) input)) r) e l in
+  one_more_lem {after = after} {i = i} r s e l p b =
+      let m : Lists after (record_at input i) r = subst (λ (x : List ℕ). Lists after x r) e l in
       let n : Lists (station_at st input i) (record_at input i) r = subst (λ (x : Station). Lists x (record_at input i) r) s.station m in
       rw add-one
       (record {

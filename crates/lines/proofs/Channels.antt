@@ -9,6 +9,7 @@ use lib.Dec.{leb}
 use lib.ListN.{get_or}
 use borrow.Author.Tests.{le-ltb, leb-true, leb-false}
 use Rattle.strings.specs.Pick.{pick}
+use Rattle.std.specs.Prelude.{Err}
 use Rattle.strings.specs.declared.Refusal.{Refusal}
 use Rattle.strings.specs.declared.Refusal.TheVariants.{Channel, Owner}
 use Rattle.strings.specs.Numbers.{refusal_paper}
@@ -16,7 +17,6 @@ use Rattle.channel.specs.Offers.{offer_tests}
 use Rattle.channel.proofs.HeldFrame.{first_said}
 use Rattle.fields.specs.Sixteen.{channel_in, epoch_in, symbols_in}
 use Rattle.station.specs.declared.Station.{Station}
-use Rattle.station.specs.declared.Gate.TheVariants.{Shut}
 use Rattle.station.specs.Station.{owner_of, held_at, Enters, station_tests, station_after}
 use Rattle.station.proofs.Served.{shut_says_lem, enters_no_channel, enters_not_owner}
 use Rattle.station.proofs.EveryHistory.{offer_answers}
@@ -31,7 +31,7 @@ module _ (st : Station) (rec : List ℕ) where
   c = channel_in rec
 
   -- the gate's number is the line's
-  number_shut : (why : Refusal) → Enters speaks_for c (Shut why) → number_for st rec ≡ get_or (refusal_paper why) 0 0
+  number_shut : (why : Refusal) → Enters speaks_for c (Err why) → number_for st rec ≡ get_or (refusal_paper why) 0 0
   number_shut why e =
       let ts = offer_tests (held_at st c) (epoch_in rec) (symbols_in rec) in
       sym (first_said (station_tests st speaks_for c (epoch_in rec) (symbols_in rec)) [])
@@ -48,10 +48,10 @@ module _ (st : Station) (rec : List ℕ) where
         polarity = polarity_for k (symbols_in rec);
       }
 
-  others : 24 ≤ c → c ≤ 47 → Enters speaks_for c (Shut Owner)
+  others : 24 ≤ c → c ≤ 47 → Enters speaks_for c (Err Owner)
   others h k = enters_not_owner speaks_for c refl k (λ e. let two : owner_of c ≡ 2 = ap (λ (t : Bool). pick t 1 2) (le-ltb c 24 h) in omega (arith, two, e))
 
-  none : 47 < c → Enters speaks_for c (Shut Channel)
+  none : 47 < c → Enters speaks_for c (Err Channel)
   none h = enters_no_channel speaks_for c refl h
 
   told_15 : 24 ≤ c → c ≤ 47 → line_for st rec ≡ zeros_after 15 rec

@@ -10,6 +10,8 @@ use lib.Dec.{T, eqb}
 use lib.ListN.{get_or, drop}
 use borrow.Author.Tests.{eq-eqb, eqb-true}
 use Rattle.strings.specs.Pick.{pick, is_one_of}
+use Rattle.channel.specs.declared.TakenString.{TakenString}
+use Rattle.std.specs.Prelude.{Result, Err, Ok}
 use Rattle.strings.specs.declared.Refusal.{Refusal}
 use Rattle.strings.specs.declared.Refusal.TheVariants.{Channel, Shape, Damaged, Idle, Number, Early, Stale, OffBeat, Conflict, Range, Place, Room, Nothing, Slot, Owner, Card}
 use Rattle.strings.specs.declared.hamming.Damage.TheVariants.{Unplaced, Even, Outside}
@@ -22,13 +24,11 @@ use Rattle.strings.specs.Calls.{sound_tests}
 use Rattle.strings.proofs.Tests.{all_of, first_of_lem, first_by}
 use Rattle.words.specs.Calls.{number_in}
 use Rattle.channel.specs.declared.News.{News}
-use Rattle.channel.specs.declared.Answer.{Answer}
-use Rattle.channel.specs.declared.Answer.TheVariants.{Taken, Refused}
 use Rattle.channel.specs.Frame.{place_tests, news_of}
 use Rattle.hearing.specs.Hears.{whole_of, verdict_in, hear_tests}
 use Rattle.relative.specs.declared.Polarity.{Polarity}
 use Rattle.relative.specs.Polarity.{first_symbol, polarity_number}
-use Rattle.channel.specs.Offers.{told_as, answer_paper}
+use Rattle.channel.specs.Offers.{told_as, answer_paper, took}
 use Rattle.channel.proofs.HeldFrame.{first_said}
 use Rattle.station.specs.declared.Station.{Station}
 use Rattle.station.specs.declared.Stepped.{Stepped}
@@ -103,7 +103,7 @@ module _ (st : Station) (c epoch : ℕ) (s : List ℕ) where
   abbrev told : ℕ → Seen
   told k = seen (repaired_for k s) (m_for k s) (polarity_for k s)
 
-  seen_taken : (m : ℕ) (v : Verdict) (w : News) (p : Polarity) (k : ℕ) → answer_paper (Taken m v w p) ≡ said_by k (place_of tests) (told_in st c epoch s)
+  seen_taken : (m : ℕ) (v : Verdict) (w : News) (p : Polarity) (k : ℕ) → answer_paper (took m v w p) ≡ said_by k (place_of tests) (told_in st c epoch s)
       → seen (bit_in v) m (polarity_number p) ≡ told k
   seen_taken m v w p zero e =
       let n = whole_of s in
@@ -156,7 +156,7 @@ module _ (st : Station) (c epoch : ℕ) (s : List ℕ) where
   none_told : (q : Refusal) → get_or (refusal_paper q) 0 0 ≡ first_of tests → 0 ≡ polarity_for (first_of tests) s
   none_told q e = sym (ap (λ (t : Bool). pick t (first_symbol (number_of s)) 0) (ap (λ (k : ℕ). eqb k 0) (sym e) ∙ (refusal_known q).1))
 
-  seen_refused : (q : Refusal) → get_or (refusal_paper q) 0 0 ≡ first_of tests → seen_by (Refused q) s ≡ told (first_of tests)
+  seen_refused : (q : Refusal) → get_or (refusal_paper q) 0 0 ≡ first_of tests → seen_by (Err q) s ≡ told (first_of tests)
   unfolding seen_by seen_in
   seen_refused q e =
       ap (λ (t : Bool). pick t (seen 0 0 0) (seen_in s)) (comes_before q ∙ ap (is_one_of before_verdict) e) ∙ seen_again
@@ -170,10 +170,10 @@ module _ (st : Station) (c epoch : ℕ) (s : List ℕ) where
   unfolding seen_by
   seen_is r o = by r.answer o.answer (number_is r o)
     where
-      by : (a : Answer) → answer_paper a ≡ answer_of tests (told_in st c epoch s) → get_or (answer_paper a) 0 0 ≡ first_of tests
+      by : (a : Result TakenString Refusal) → answer_paper a ≡ answer_of tests (told_in st c epoch s) → get_or (answer_paper a) 0 0 ≡ first_of tests
           → seen_by a s ≡ told (first_of tests)
-      by (Taken m v w p) e n = seen_taken m v w p (first_of tests) e
-      by (Refused q) e n = seen_refused q n
+      by (Ok said) e n = seen_taken said.m said.verdict said.news said.polarity (first_of tests) e
+      by (Err q) e n = seen_refused q n
 
 -- ---- the line of a record
 -- a line is known by its six numbers

@@ -48,11 +48,10 @@ pub fn print_records(st: Station, input: &[u8], text: &mut [u8]) -> Printed
     requires { length input.now / 16 * line_bytes + line_bytes ≤ length text.old }
     ensures { Prints st input.now text.old result text.new }
 {
-    let count = input.len() / 16;
     let mut after = st;
     let mut end = 0;
-    for i in 0..count {
-        let listed = list_record(after, &input[i * 16..i * 16 + 16]);
+    for rec in input.chunks_exact(16) {
+        let listed = list_record(after, rec);
         after = listed.station;
         end = put_line(text, end, listed.line);
     }

@@ -1,8 +1,7 @@
 -- The records of an input, offered one after the other to a fresh station, and their answers added up (one_more, all_told).
 -- Assumes nothing.
-use Prim.Native.Nat.{ℕ, ◌+◌, ◌-◌, ◌*◌, ◌/◌}
+use Prim.Native.Nat.{ℕ, ◌+◌, ◌*◌, ◌/◌}
 use native.Mathlib.Numerals.{add-one}
-use native.Mathlib.Omega.{arith}
 use mathlib.Core.List.{List, []}
 use mathlib.Core.Path.{◌≡◌, refl, sym, ap, ap₂, subst, ◌∙◌}
 use lib.Bits.{bit_xor}
@@ -23,10 +22,6 @@ pub record SoFar (input : List ℕ) (st : Station) (sum i : ℕ) : Type 0 where
   pub run : Runs (calls_in input i) st
   pub summed : sum ≡ sum_of input i
 
--- the bytes of record i, as the code takes them
-abbrev sixteen : List ℕ → ℕ → List ℕ
-sixteen input i = take (i * 16 + 16 - i * 16) (drop (i * 16) input)
-
 abbrev OfferedOf : Station → List ℕ → Stepped → Type 0
 OfferedOf st rec r = OffersTo st 1 (channel_in rec) (epoch_in rec) (symbols_in rec) r
 
@@ -39,12 +34,11 @@ unfolding calls_in sum_of
 none_yet input st e = record { run = subst (Runs []) (sym e) fresh; summed = refl }
 
 -- one record more
-pub one_more_lem : {input : List ℕ} {st : Station} {sum i byte : ℕ} {r : Stepped} → SoFar input st sum i → OfferedOf st (sixteen input i) r
-    → byte ≡ byte_of (answer_paper r.answer) → SoFar input r.station (bit_xor sum byte) (i + 1)
+pub one_more_lem : {input rec : List ℕ} {st : Station} {sum i byte : ℕ} {r : Stepped} → SoFar input st sum i → rec ≡ take 16 (drop (i * 16) input)
+    → OfferedOf st rec r → byte ≡ byte_of (answer_paper r.answer) → SoFar input r.station (bit_xor sum byte) (i + 1)
 unfolding calls_in sum_of
-one_more_lem {input} {st} {sum} {i} {byte} {r} s o b =
-    let e : i * 16 + 16 - i * 16 ≡ 16 = omega arith in
-    let p : OfferedOf st (take 16 (drop (i * 16) input)) r = subst (λ (k : ℕ). OfferedOf st (take k (drop (i * 16) input)) r) e o in
+one_more_lem {input} {rec} {st} {sum} {i} {byte} {r} s e o b =
+    let p : OfferedOf st (take 16 (drop (i * 16) input)) r = subst (λ (l : List ℕ). OfferedOf st l r) e o in
     rw add-one
     (record {
       run = offering _ _ _ _ (calls_in input i) st r s.run p;

@@ -5,13 +5,13 @@ use Prim.Native.Nat.{ℕ, zero, suc}
 use mathlib.Core.List.{List}
 use mathlib.Core.Path.{◌≡◌, refl, ap, subst, ◌∙◌}
 use lib.IntN.{ℤ}
-use Rattle.strings.specs.declared.Written.{Written}
 use Rattle.strings.specs.Calls.{written_paper}
+use Rattle.strings.specs.declared.Refusal.{Refusal}
+use Rattle.std.specs.Prelude.{Result, ⊤}
 use Rattle.records.specs.declared.kinds.Kind.{Kind}
 use Rattle.records.specs.declared.kinds.Kind.TheVariants.{Fourteen}
 use Rattle.records.specs.declared.named.Record.{Record}
 use Rattle.records.specs.Records.{record_of}
-use Rattle.words.specs.declared.reading.Reading.{Reading}
 use Rattle.words.specs.Calls.{reading_paper, Reads, Writes}
 use Rattle.told.specs.Told.{packed}
 use Rattle.measured.specs.Parts.{kind_by, words_left, TellsRead, TellsWrite}
@@ -29,7 +29,7 @@ any_other (suc (suc (suc (suc (suc (suc (suc zero))))))) a b c d e f g = absurd 
 any_other (suc (suc (suc (suc (suc (suc (suc (suc n)))))))) a b c d e f g = refl
 
 -- a call of the reader that answers y
-pub tells_read : {s : List ℕ} {kind r : ℕ} {out out' : List ℤ} {k : Kind} {x y : Reading} → k ≡ kind_by kind → Reads s k x → x ≡ y
+pub tells_read : {s : List ℕ} {kind r : ℕ} {out out' : List ℤ} {k : Kind} {x y : Result (ℕ × Record) Refusal} → k ≡ kind_by kind → Reads s k x → x ≡ y
     → r ≡ packed (reading_paper y) → out' ≡ words_left y out → TellsRead s kind out r out'
 tells_read {s = s} {kind = kind} {out = out} {k = k} {x = x} {y = y} e a f p w =
     record {
@@ -39,7 +39,7 @@ tells_read {s = s} {kind = kind} {out = out} {k = k} {x = x} {y = y} e a f p w =
       words = w;
     }
 
-pub tells_write : {m kind r : ℕ} {v : List ℤ} {out out' : List ℕ} {k : Kind} {rec : Record} (w : Written) → k ≡ kind_by kind → rec ≡ record_of k v
+pub tells_write : {m kind r : ℕ} {v : List ℤ} {out out' : List ℕ} {k : Kind} {rec : Record} (w : Result ⊤ Refusal) → k ≡ kind_by kind → rec ≡ record_of k v
     → Writes m rec out w out' → r ≡ packed (written_paper w) → TellsWrite m kind v out r out'
 tells_write {m = m} {v = v} {out = out} {out' = out'} w e f a p =
     record {

@@ -7,9 +7,9 @@ ghost use Rattle.layout.specs.Layout.{kind_number};
 ghost use Rattle.measured.specs.Parts.{TellsRelative, kind_by, TellsRead, TellsWrite};
 
 use records::Kind;
-use relative::{Decoded, polarity_number};
+use relative::{Polarity, polarity_number};
+use strings::Refusal;
 use told::{refusal_told, written_told};
-use words::Reading;
 
 #[unsafe(no_mangle)]
 pub extern "C" fn measured_relative(s: &[u8], out: &mut [u8]) -> u64
@@ -25,8 +25,8 @@ pub extern "C" fn measured_read(s: &[u8], kind: u8, out: &mut [i32; 8]) -> u64
 {
     let read = words::read_words(s, kind_by(kind));
     match read {
-        Reading::Refused(why) => refusal_told(why) as u64,
-        Reading::Read(m, r) => {
+        Err(why) => refusal_told(why) as u64,
+        Ok((m, r)) => {
             *out = records::list_of(r);
             read_told(m, number_of(records::kind_of(r)))
         }
@@ -80,11 +80,11 @@ fn read_told(m: u8, kind: u8) -> u64
 }
 
 // What a relative reading answers: 0 and the polarity, or the refusal's numbers.
-fn decoded_told(d: Decoded) -> u64
+fn decoded_told(d: Result<Polarity, Refusal>) -> u64
     ensures { result ≡ packed (decoded_paper d) }
 {
     match d {
-        Decoded::Read(p) => 256 * (polarity_number(p) as u64),
-        Decoded::Refused(why) => refusal_told(why) as u64,
+        Ok(p) => 256 * (polarity_number(p) as u64),
+        Err(why) => refusal_told(why) as u64,
     }
 }

@@ -6,9 +6,10 @@ ghost use Rattle.fields.specs.Sixteen.{channel_in, epoch_in, symbols_in};
 ghost use Rattle.station.specs.Station.{OffersTo};
 ghost use Rattle.measured.specs.Whole.{byte_of, SumsUp};
 
-use channel::Answer;
+use channel::TakenString;
 use fields::{channel_in, epoch_in, symbols_in};
 use station::{Station, Stepped};
+use strings::Refusal;
 
 // Offers the records of an input, sixteen bytes each, to a fresh station, by card one, and adds up what
 // they are told and a byte of its book.
@@ -18,9 +19,8 @@ pub extern "C" fn measured_offers(input: &[u8]) -> u8
 {
     let mut st = station::fresh();
     let mut sum: u8 = 0;
-    let count = input.len() / 16;
-    for i in 0..count {
-        let stepped = offer_record(st, &input[i * 16..i * 16 + 16]);
+    for rec in input.chunks_exact(16) {
+        let stepped = offer_record(st, rec);
         let answer = stepped.answer;
         st = stepped.station;
         sum = sum ^ byte_told(answer);
@@ -35,12 +35,12 @@ fn offer_record(st: Station, rec: &[u8]) -> Stepped
     station::offer(st, 1, channel_in(rec), epoch_in(rec), symbols_in(rec))
 }
 
-fn byte_told(a: Answer) -> u8
+fn byte_told(a: Result<TakenString, Refusal>) -> u8
     ensures { result ≡ byte_of (answer_paper a) }
 {
     match a {
-        Answer::Taken(m, _, _, _) => m,
-        Answer::Refused(why) => strings::refusal_number(why),
+        Ok(taken) => taken.m,
+        Err(why) => strings::refusal_number(why),
     }
 }
 

@@ -10,6 +10,8 @@ use borrow.Author.Tests.{eqb-true, eq-eqb, ltb-false, leb-true, not-false}
 use lib.Dec.{eqb, ltb, leb}
 use lib.ListN.{length, get_or, drop}
 use Rattle.strings.specs.Numbers.{Test, test, test_at, first_of, place_of, said_by, left_by}
+use Rattle.navigation.specs.declared.Unwritten.{Unwritten}
+use Rattle.std.specs.Prelude.{Result, Ok}
 use Rattle.strings.proofs.Below.{both}
 use Rattle.strings.proofs.Tests.{past_first}
 use Rattle.immediate.specs.Kept.{has_record}
@@ -20,8 +22,6 @@ use Rattle.station.specs.Queries.{is_slot, is_empty, kept_at}
 use Rattle.station.proofs.Served.{past_gate}
 use Rattle.navigation_queries.specs.Five.{is_five_at}
 use Rattle.navigation_queries.specs.Carrier.{has_entry}
-use Rattle.navigation.specs.declared.Answer.{Answer}
-use Rattle.navigation.specs.declared.Answer.TheVariants.{Written}
 use Rattle.navigation.specs.Writes.{answer_paper, n_at, nt_at, is_there, is_day, is_four_years, place_out, record_bytes, record_tests, quarter_at, text_at, Writes}
 use Rattle.navfile.specs.File.{ask_of, is_answered}
 
@@ -38,7 +38,7 @@ module _ (card : ℕ) (st : Station) (c : ℕ) where
   first_answered e = eq-eqb (first_of tests) 0 e
 
   -- ---- what the call says and leaves where it is not refused
-  pub said_written : (out : List ℕ) → length out ≡ record_bytes → is_answered card (ask_of st c) ≡ true → Writes st card c out (Written (n_at st c) (quarter_at st c)) (text_at st c)
+  pub said_written : (out : List ℕ) → length out ≡ record_bytes → is_answered card (ask_of st c) ≡ true → Writes st card c out (Ok (n_at st c, quarter_at st c)) (text_at st c)
   unfolding Writes
   said_written out l e =
       let z : first_of (record_tests st card c (length out)) ≡ 0 = ap (λ (room : ℕ). first_of (record_tests st card c room)) l ∙ answered_first e in
@@ -54,7 +54,7 @@ module _ (card : ℕ) (st : Station) (c : ℕ) where
     pub epoch : quarter ≡ quarter_at st c
     pub lines : out' ≡ text_at st c
 
-  pub written_said : (n quarter : ℕ) (out out' : List ℕ) → length out ≡ record_bytes → Writes st card c out (Written n quarter) out' → Said n quarter out'
+  pub written_said : (n quarter : ℕ) (out out' : List ℕ) → length out ≡ record_bytes → Writes st card c out (Ok (n, quarter)) out' → Said n quarter out'
   unfolding Writes
   written_said n quarter out out' l w = by (first_of (record_tests st card c (length out))) refl w.answer w.output
     where
@@ -71,7 +71,7 @@ module _ (card : ℕ) (st : Station) (c : ℕ) where
       by (suc k) z p q = let b : ◌≡◌ {A = ℕ} 0 (suc k) = ap (λ (x : List ℕ). get_or x 0 0) p in absurd (omega arith)
 
   -- an answer that is not a record: it is refused
-  pub not_said : (r : Answer) (out out' : List ℕ) → length out ≡ record_bytes → eqb (get_or (answer_paper r) 0 0) 0 ≡ false → Writes st card c out r out'
+  pub not_said : (r : Result (ℕ × ℕ) Unwritten) (out out' : List ℕ) → length out ≡ record_bytes → eqb (get_or (answer_paper r) 0 0) 0 ≡ false → Writes st card c out r out'
       → is_answered card (ask_of st c) ≡ false
   unfolding Writes is_answered
   not_said r out out' l n w =

@@ -12,14 +12,13 @@ use lib.IntN.{nat_abs}
 use lib.ListN.{length, get_or, set, drop}
 use lib.Seq.{set_out, get_or-set_same, get_or-set_other}
 use Rattle.strings.specs.Pick.{pick}
+use Rattle.std.specs.Prelude.{Option, Some, None}
 use Rattle.strings.specs.Numbers.{Test, test, test_at, first_of}
 use Rattle.strings.proofs.Below.{both}
 use Rattle.strings.proofs.Tests.{past_first}
 use Rattle.words.specs.Immediate.{immediate_of}
 use Rattle.book.specs.declared.Entry.{Entry}
 use Rattle.book.specs.declared.Book.{Book}
-use Rattle.book.specs.declared.Shown.{Shown}
-use Rattle.book.specs.declared.Shown.TheVariants.{Nothing, At}
 use Rattle.book.specs.Entry.{meaning, is_below, greater, blank}
 use Rattle.book.specs.Book.{in_slot, joined, joined_shown}
 use Rattle.immediate.specs.Kept.{has_record}
@@ -74,12 +73,12 @@ put_dated l i j e h = by (eqb i j) refl (ltb j (length l)) refl
 abbrev Filled : Book → ℕ → Type 0
 Filled b k = 1 ≤ (in_slot b k).day
 
-shown_filled : (b : Book) (s : Shown) (k : ℕ) → Filled b k → Filled (joined_shown b s) k
+shown_filled : (b : Book) (s : Option (ℕ × Entry)) (k : ℕ) → Filled b k → Filled (joined_shown b s) k
 unfolding joined_shown joined
-shown_filled b Nothing k h = h
-shown_filled b (At j e) k h = put_dated b.entries (k - 1) (j - 1) e h
+shown_filled b None k h = h
+shown_filled b (Some (j, e)) k h = put_dated b.entries (k - 1) (j - 1) e h
 
-brought_filled : (ss : List Shown) (b : Book) (k : ℕ) → Filled b k → Filled (brought b ss) k
+brought_filled : (ss : List (Option (ℕ × Entry))) (b : Book) (k : ℕ) → Filled b k → Filled (brought b ss) k
 unfolding brought
 brought_filled [] b k h = h
 brought_filled (s ∷ ss) b k h = brought_filled ss (joined_shown b s) k (shown_filled b s k h)

@@ -1,7 +1,7 @@
 -- What the calls tell, piece by piece: a record of a satellite and an epoch (told-before, told-new), one ask (tells-ask, tells_none), one record
 -- (tells-record), the first records of a block and all of them (Sofar, one_more, all_told), the first channels at the end and all of them.
 -- Assumes nothing.
-use Prim.Native.Nat.{ℕ, ◌+◌, ◌-◌, ◌*◌, ◌/◌, ◌≤◌}
+use Prim.Native.Nat.{ℕ, ◌+◌, ◌*◌, ◌/◌, ◌≤◌}
 use mathlib.Core.Bool.{Bool, true, false, ◌&&◌}
 use mathlib.Core.List.{List, [], ◌∷◌, ◌++◌, append-nil}
 use mathlib.Core.Path.{◌≡◌, refl, sym, ap, ap₂, subst, ◌∙◌}
@@ -9,9 +9,11 @@ use native.Mathlib.Numerals.{add-one}
 use native.Mathlib.Omega.{arith}
 use borrow.Author.Tests.{eq-eqb, ne_eqb}
 use lib.Dec.{eqb}
-use lib.ListN.{length, get_or, take, drop}
+use lib.ListN.{length, get_or, take}
 use lib.Seq.{length-take-le}
 use Rattle.strings.specs.Pick.{pick}
+use Rattle.navigation.specs.declared.Unwritten.{Unwritten}
+use Rattle.std.specs.Prelude.{Result, Ok, Err}
 use Rattle.strings.specs.declared.Refusal.{Refusal}
 use Rattle.strings.proofs.Answer.{refusal_known}
 use Rattle.digits.specs.Text.{Puts}
@@ -20,8 +22,7 @@ use Rattle.fields.specs.Sixteen.{channel_in, epoch_in, symbols_in}
 use Rattle.station.specs.declared.Station.{Station}
 use Rattle.station.specs.declared.Stepped.{Stepped}
 use Rattle.station.specs.Station.{channels, station_after, OffersTo}
-use Rattle.navigation.specs.declared.Answer.{Answer}
-use Rattle.navigation.specs.declared.Answer.TheVariants.{Written, Refused, Lines}
+use Rattle.navigation.specs.declared.Unwritten.TheVariants.{Refused, Lines}
 use Rattle.navigation.specs.Writes.{answer_paper, record_bytes, Writes}
 use Rattle.navfile.specs.declared.Office.{Office}
 use Rattle.navfile.specs.declared.Told.{Told}
@@ -70,14 +71,14 @@ module _ (card : ℕ) (o : Office) (a : Ask) where
       }
 
 -- by what the call that writes a record answered
-module _ (card : ℕ) (o : Office) (c : ℕ) (out out' text : List ℕ) (at : ℕ) (said : Answer) (four : length out ≡ record_bytes) (w : Writes o.station card c out said out') where
+module _ (card : ℕ) (o : Office) (c : ℕ) (out out' text : List ℕ) (at : ℕ) (said : Result (ℕ × ℕ) Unwritten) (four : length out ≡ record_bytes) (w : Writes o.station card c out said out') where
   abbrev it : Ask
   it = ask_of o.station c
 
   -- a record
-  module _ (n quarter : ℕ) (e : said ≡ Written n quarter) where
+  module _ (n quarter : ℕ) (e : said ≡ Ok (n, quarter)) where
     said_of : Said card o.station c n quarter out'
-    said_of = written_said card o.station c n quarter out out' four (subst (λ (r : Answer). Writes o.station card c out r out') e w)
+    said_of = written_said card o.station c n quarter out out' four (subst (λ (r : Result (ℕ × ℕ) Unwritten). Writes o.station card c out r out') e w)
 
     pub satellite_most : n ≤ 24
     satellite_most = omega (arith, said_of.satellite, (answered_parts card o.station c said_of.answered).slot_most)
@@ -107,11 +108,15 @@ module _ (card : ℕ) (o : Office) (c : ℕ) (out out' text : List ℕ) (at : �
       let e : is_due card o.written it ≡ false = ap (λ (b : Bool). b && is_new o.written it) (not_said card o.station c said out out' four n w) in
       tells_by card o it false e (record { office = refl; puts = puts_none })
 
-  pub tells_refused : {why : Refusal} → said ≡ Refused why → TellsAsk card o c text at (record { office = o; end = at }) text
-  tells_refused {why} e = tells_none (ap (λ (r : Answer). eqb (get_or (answer_paper r) 0 0) 0) e ∙ (refusal_known why).1)
+  pub tells_refused : {why : Refusal} → said ≡ Err (Refused why) → TellsAsk card o c text at (record { office = o; end = at }) text
+  tells_refused {why} e = tells_none (ap (λ (r : Result (ℕ × ℕ) Unwritten). eqb (get_or (answer_paper r) 0 0) 0) e ∙ (refusal_known why).1)
 
-  pub tells_no_lines : said ≡ Lines → TellsAsk card o c text at (record { office = o; end = at }) text
-  tells_no_lines e = tells_none (ap (λ (r : Answer). eqb (get_or (answer_paper r) 0 0) 0) e)
+  pub tells_no_lines : said ≡ Err Lines → TellsAsk card o c text at (record { office = o; end = at }) text
+  tells_no_lines e = tells_none (ap (λ (r : Result (ℕ × ℕ) Unwritten). eqb (get_or (answer_paper r) 0 0) 0) e)
+
+  pub tells_unwritten : (u : Unwritten) → said ≡ Err u → TellsAsk card o c text at (record { office = o; end = at }) text
+  tells_unwritten (Refused why) e = tells_refused e
+  tells_unwritten Lines e = tells_no_lines e
 
 -- a piece of one ask is four lines at most
 pub piece_most : (card : ℕ) (o : Office) (a : Ask) → length (text_for card o (a ∷ [])) ≤ record_bytes
@@ -141,10 +146,6 @@ tells_record_lem card o rec {text} {text'} {at} told {c} {after} e p q =
 abbrev pub office_at : ℕ → Office → List ℕ → ℕ → Office
 office_at card o input k = record { station = station_at card o.station input k; written = written_after card o.written (asks_at card o.station input k) }
 
--- the bytes of record i, as the code takes them
-abbrev pub sixteen : List ℕ → ℕ → List ℕ
-sixteen input i = take (i * 16 + 16 - i * 16) (drop (i * 16) input)
-
 pub record Sofar (card : ℕ) (o : Office) (input text₀ text : List ℕ) (after : Office) (end i : ℕ) : Type 0 where
   pub office : after ≡ office_at card o input i
   pub puts : Puts text₀ 0 (text_for card o (asks_at card o.station input i)) text end
@@ -155,12 +156,11 @@ module _ {card : ℕ} {o : Office} {input text₀ : List ℕ} where
   unfolding station_at asks_at due_of written_after texts_of
   none_yet = record { office = refl; puts = puts_none; bound = omega arith }
 
-  pub one_more_lem : {text text' : List ℕ} {after : Office} {end i : ℕ} (r : Told) → Sofar card o input text₀ text after end i
-      → TellsRecord card after (sixteen input i) text end r text' → Sofar card o input text₀ text' r.office r.end (i + 1)
+  pub one_more_lem : {text text' rec : List ℕ} {after : Office} {end i : ℕ} (r : Told) → Sofar card o input text₀ text after end i
+      → rec ≡ record_at input i → TellsRecord card after rec text end r text' → Sofar card o input text₀ text' r.office r.end (i + 1)
   unfolding station_at asks_at
-  one_more_lem {text} {text'} {after} {end} {i} r s p =
-      let e : i * 16 + 16 - i * 16 ≡ 16 = omega arith in
-      let q : TellsRecord card after (record_at input i) text end r text' = subst (λ (k : ℕ). TellsRecord card after (take k (drop (i * 16) input)) text end r text') e p in
+  one_more_lem {text} {text'} {rec} {after} {end} {i} r s e p =
+      let q : TellsRecord card after (record_at input i) text end r text' = subst (λ (x : List ℕ). TellsRecord card after x text end r text') e p in
       let m : TellsRecord card (office_at card o input i) (record_at input i) text end r text' = subst (λ (x : Office). TellsRecord card x (record_at input i) text end r text') s.office q in
       let asks = asks_at card o.station input i in
       let last = ask_before card (station_at card o.station input i) (record_at input i) ∷ [] in

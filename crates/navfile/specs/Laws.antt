@@ -1,10 +1,9 @@
 -- What is proved of the navigation file of any capture, offered by either card or by none (request 11). The proofs stand in `proofs/`.
 -- Assumes nothing.
-use Rattle.std.specs.Prelude.{ℕ, suc, ◌+◌, ◌*◌, ◌%◌, ◌≤◌, ◌<◌, true, ◌≡◌, eqb, length, get_or, take, drop}
+use Rattle.std.specs.Prelude.{ℕ, suc, ◌+◌, ◌*◌, ◌%◌, ◌≤◌, ◌<◌, true, ◌≡◌, eqb, length, get_or, take, drop, Ok}
 use mathlib.Core.List.{List, [], ◌∷◌, ◌++◌, Memᴰ}
 use Rattle.strings.specs.Pick.{pick}
 use Rattle.station.specs.Station.{fresh_station}
-use Rattle.navigation.specs.declared.Answer.TheVariants.{Written}
 use Rattle.navigation.specs.Writes.{n_at, quarter_at, record_bytes, Writes}
 use Rattle.navfile.specs.declared.Office.{Office}
 use Rattle.navfile.specs.Header.{header_bytes, header}
@@ -26,7 +25,7 @@ NothingLost = (card : ℕ) (input : List ℕ) (k c : ℕ) → k ≤ records_in i
 -- the same in the words of the call that writes a record: what it is answered at any moment of the capture
 abbrev pub NoneUnwritten : Type 0
 NoneUnwritten = (card : ℕ) (input : List ℕ) (k c n quarter : ℕ) (out out' : List ℕ) → k ≤ records_in input → length out ≡ record_bytes
-    → Writes (station_at card fresh_station input k) card c out (Written n quarter) out' → InFile card input n quarter
+    → Writes (station_at card fresh_station input k) card c out (Ok (n, quarter)) out' → InFile card input n quarter
 
 -- ---- two records of one satellite that follow one another have two epochs
 -- the epochs of one satellite's records, in their order
@@ -44,7 +43,7 @@ pub record FromMoment (card : ℕ) (input : List ℕ) (a : Ask) : Type 0 where
   pub within : k ≤ records_in input
   pub moment : a.station ≡ station_at card fresh_station input k
   pub call : (out : List ℕ) → length out ≡ record_bytes
-      → Writes a.station card a.channel out (Written (satellite_of a) (epoch_of a)) (lines_of a)
+      → Writes a.station card a.channel out (Ok (satellite_of a, epoch_of a)) (lines_of a)
 
 abbrev pub EachFromMoment : Type 0
 EachFromMoment = (card : ℕ) (input : List ℕ) (a : Ask) → Memᴰ a (records_of card input) → FromMoment card input a

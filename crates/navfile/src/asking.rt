@@ -6,7 +6,7 @@ ghost use Rattle.navfile.specs.Calls.{TellsAsk, TellsNew};
 
 use crate::{Office, Told};
 use digits::put;
-use navigation::{Answer, write_record};
+use navigation::write_record;
 
 // Four lines.
 const RECORD: usize = 320;
@@ -19,9 +19,8 @@ pub fn ask(office: Office, card: u8, channel: u8, text: &mut [u8], at: usize) ->
     let st = office.station;
     let answer = write_record(st, card, channel, &mut lines);
     match answer {
-        Answer::Written(n, quarter) => put_new(office, n, quarter, &lines, text, at),
-        Answer::Refused(_) => Told { office, end: at },
-        Answer::Lines => Told { office, end: at },
+        Ok((n, quarter)) => put_new(office, n, quarter, &lines, text, at),
+        Err(_) => Told { office, end: at },
     }
 }
 

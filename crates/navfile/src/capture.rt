@@ -42,11 +42,10 @@ pub fn write_records(office: Office, card: u8, input: &[u8], text: &mut [u8]) ->
     requires { length input.now / 16 * record_bytes ≤ length text.old }
     ensures { TellsBlock card office input.now text.old result text.new }
 {
-    let count = input.len() / 16;
     let mut after = office;
     let mut end = 0;
-    for i in 0..count {
-        let told = take_record(after, card, &input[i * 16..i * 16 + 16], text, end);
+    for rec in input.chunks_exact(16) {
+        let told = take_record(after, card, rec, text, end);
         after = told.office;
         end = told.end;
     }

@@ -19,7 +19,8 @@ const LAST: usize = 15360;
 // Three lines of 81 bytes.
 const HEADER: usize = 243;
 
-// The office after a block, and whether another may follow.
+// The office after a block, and whether another may follow. The office is wanted after the last block
+// too, for what is due at the end.
 #[derive(Clone, Copy)]
 struct Turn {
     office: Office,
@@ -51,15 +52,9 @@ fn write_block<R: Input + Print>(rt: &R, office: Office, card: u8) -> Turn {
     let after = told.office;
     let end = told.end;
     let is_written = write_all(rt, &text[..end]);
-    if got < BLOCK {
-        return Turn {
-            office: after,
-            more: false,
-        };
-    }
     Turn {
         office: after,
-        more: is_written,
+        more: got == BLOCK && is_written,
     }
 }
 
@@ -73,18 +68,16 @@ fn write_end<R: Print>(rt: &R, office: Office, card: u8) {
 
 // Writes the navigation file of standard input, of any length, offered by a card to a fresh station. It
 // returns nothing, and a contract cannot speak of what is read and written, so it promises only to end.
-// Nothing says that the input ends, so the blocks are counted down from a number that no run uses up.
+// Nothing says that the input ends, so the blocks are counted up to a number that no run reaches.
 pub fn write_file<R: Input + Print>(rt: &R, card: u8) {
     write_header(rt);
     let mut office = fresh_office();
-    let mut blocks = u64::MAX;
-    while blocks > 0 {
+    for _ in 0..u64::MAX {
         let turn = write_block(rt, office, card);
         office = turn.office;
         if !turn.more {
             break;
         }
-        blocks -= 1;
     }
     write_end(rt, office, card);
 }

@@ -11,6 +11,8 @@ use lib.Dec.{eqb, leb}
 use lib.IntN.{ℤ, nat_abs}
 use lib.ListN.{length, get_or}
 use Rattle.strings.specs.declared.Refusal.{Refusal}
+use Rattle.navigation.specs.declared.Unwritten.{Unwritten}
+use Rattle.std.specs.Prelude.{Result, Ok, Err}
 use Rattle.strings.specs.declared.Refusal.TheVariants.{Range}
 use Rattle.strings.specs.Numbers.{refusal_paper, Test, test, first_of, place_of, said_by, answer_of, left_by}
 use Rattle.strings.proofs.Answer.{not_taken}
@@ -23,9 +25,7 @@ use Rattle.station.specs.Station.{is_served}
 use Rattle.station.proofs.Served.{open_says, shut_says_lem}
 use Rattle.navigation_queries.specs.Five.{five_at}
 use Rattle.navigation_queries.specs.Carrier.{carrier_at}
-use Rattle.navigation.specs.declared.Answer.{Answer}
-use Rattle.navigation.specs.declared.Answer.TheVariants.{Written, Refused, Lines}
-use Rattle.navigation.specs.declared.Gathered.TheVariants.{All, Refused as NotGathered}
+use Rattle.navigation.specs.declared.Unwritten.TheVariants.{Refused, Lines}
 use Rattle.navigation.specs.Writes.{words_at, n_at, is_there, is_within, record_bytes, record_tests, quarter_at, text_at, Writes}
 use Rattle.navigation.specs.Gathers.{all_tests, told_of, Gathers, WritesAll, AsRead}
 use Rattle.navigation.proofs.Found.{told_zero}
@@ -43,7 +43,7 @@ module _ (st : Station) (card c : ℕ) (out : List ℕ) where
   abbrev told : List ℕ
   told = n_at st c ∷ quarter_at st c ∷ []
 
-  pub writes_refused : (why : Refusal) → Gathers st card c (NotGathered why) → Writes st card c out (Refused why) out
+  pub writes_refused : (why : Refusal) → Gathers st card c (Err why) → Writes st card c out (Err (Refused why)) out
   unfolding Writes
   writes_refused why g =
       let said = by (is_served card c) refl (is_there st c) refl in
@@ -61,7 +61,7 @@ module _ (st : Station) (card c : ℕ) (out : List ℕ) where
   same_answer : is_served card c ≡ true → is_there st c ≡ true → answer_of (record_tests st card c (length out)) told ≡ answer_of rest told
   same_answer s q = open_says card c (test 13 (not (is_there st c)) ∷ rest) told s ∙ rw q
 
-  pub writes_gathered : (w : ImmediateWords) (n4 h : ℤ) (r : Answer) (out' : List ℕ) → Gathers st card c (All w n4 h) → WritesAll w n4 h out r out'
+  pub writes_gathered : (w : ImmediateWords) (n4 h : ℤ) (r : Result (ℕ × ℕ) Unwritten) (out' : List ℕ) → Gathers st card c (Ok (w, n4, h)) → WritesAll w n4 h out r out'
       → Writes st card c out r out'
   unfolding Writes WritesAll text_at
   writes_gathered w n4 h r out' g a =
@@ -104,21 +104,21 @@ module _ (w : ImmediateWords) (n4 h : ℤ) (out : List ℕ) where
   abbrev years : Bool
   years = is_within 1 21 (nat_abs n4)
 
-  pub day_refused : day ≡ false → WritesAll w n4 h out (Refused (Range 26)) out
+  pub day_refused : day ≡ false → WritesAll w n4 h out (Err (Refused (Range 26))) out
   unfolding WritesAll
   day_refused d = record { answer = rw d; output = rw d }
 
   module _ (d : day ≡ true) where
-    pub years_refused : years ≡ false → WritesAll w n4 h out (Refused (Range 36)) out
+    pub years_refused : years ≡ false → WritesAll w n4 h out (Err (Refused (Range 36))) out
     unfolding WritesAll
     years_refused y = record { answer = rw (d, y); output = rw (d, y) }
 
     module _ (y : years ≡ true) where
-      pub lines_refused : eqb (length out) record_bytes ≡ false → WritesAll w n4 h out Lines out
+      pub lines_refused : eqb (length out) record_bytes ≡ false → WritesAll w n4 h out (Err Lines) out
       unfolding WritesAll
       lines_refused l = record { answer = rw (d, y, l); output = rw (d, y, l) }
 
       pub all_written_lem : eqb (length out) record_bytes ≡ true → (n quarter : ℕ) (out' : List ℕ) → n ∷ quarter ∷ [] ≡ told_of w n4 → out' ≡ record_text w n4 h
-          → WritesAll w n4 h out (Written n quarter) out'
+          → WritesAll w n4 h out (Ok (n, quarter)) out'
       unfolding WritesAll
       all_written_lem l n quarter out' t e = record { answer = rw (d, y, l) (ap (λ (x : List ℕ). 0 ∷ x) t); output = rw (d, y, l) e }

@@ -10,6 +10,8 @@ use lib.Dec.{eqb, leb}
 use lib.IntN.{nat_abs}
 use lib.ListN.{length, get_or}
 use Rattle.strings.specs.declared.Refusal.{Refusal}
+use Rattle.navigation.specs.declared.Unwritten.{Unwritten}
+use Rattle.std.specs.Prelude.{Result, Ok, Err}
 use Rattle.strings.specs.declared.Refusal.TheVariants.{Nothing, Range}
 use Rattle.strings.specs.Numbers.{refusal_paper, Test, test, first_of, place_of, answer_of, left_by}
 use Rattle.strings.proofs.Answer.{refusal_known, refusal_same, refusal_of, not_taken, exactly, first_given}
@@ -29,8 +31,7 @@ use Rattle.station.proofs.Refusals.{Fitting, settles}
 use Rattle.station.proofs.EveryCall.{one}
 use Rattle.navigation_queries.specs.Five.{is_five_at, five_at}
 use Rattle.navigation_queries.specs.Carrier.{carrier_at}
-use Rattle.navigation.specs.declared.Answer.{Answer}
-use Rattle.navigation.specs.declared.Answer.TheVariants.{Written, Refused, Lines}
+use Rattle.navigation.specs.declared.Unwritten.TheVariants.{Refused, Lines}
 use Rattle.navigation.specs.Writes.{words_at, n_at, nt_at, tb_at, n4_at, is_there, is_day, is_four_years, place_out, record_bytes, record_tests, quarter_of, quarter_at, text_at, answer_paper, Writes}
 use Rattle.navigation.specs.Gathers.{all_tests}
 use Rattle.navigation.specs.Laws.{IsWritten, SameEpoch, AllLaws}
@@ -45,16 +46,16 @@ not_lines q e = let d = sym (refusal_known q).0 ∙ ap refusal_of e in true≢fa
     apart : refusal_paper (refusal_of (17 ∷ [])) ≡ 17 ∷ [] → true ≡ false
     apart f = cc
 
-answer_same : (r q : Answer) → answer_paper r ≡ answer_paper q → r ≡ q
-answer_same (Written n x) (Written m y) e = ap₂ Written (ap (λ (l : List ℕ). get_or l 1 0) e) (ap (λ (l : List ℕ). get_or l 2 0) e)
-answer_same (Written n x) (Refused q) e = absurd (not_taken q _ (sym e))
-answer_same (Written n x) Lines e = cc
-answer_same (Refused p) (Written m y) e = absurd (not_taken p _ e)
-answer_same (Refused p) (Refused q) e = ap Refused (refusal_same p q e)
-answer_same (Refused p) Lines e = absurd (not_lines p e)
-answer_same Lines (Written m y) e = cc
-answer_same Lines (Refused q) e = absurd (not_lines q (sym e))
-answer_same Lines Lines e = refl
+answer_same : (r q : Result (ℕ × ℕ) Unwritten) → answer_paper r ≡ answer_paper q → r ≡ q
+answer_same (Ok (n, x)) (Ok (m, y)) e = ap₂ (λ (x y : ℕ). Ok (x, y)) (ap (λ (l : List ℕ). get_or l 1 0) e) (ap (λ (l : List ℕ). get_or l 2 0) e)
+answer_same (Ok (n, x)) (Err (Refused q)) e = absurd (not_taken q _ (sym e))
+answer_same (Ok (n, x)) (Err Lines) e = cc
+answer_same (Err (Refused p)) (Ok (m, y)) e = absurd (not_taken p _ e)
+answer_same (Err (Refused p)) (Err (Refused q)) e = ap (λ (x : Refusal). Err (Refused x)) (refusal_same p q e)
+answer_same (Err (Refused p)) (Err Lines) e = absurd (not_lines p e)
+answer_same (Err Lines) (Ok (m, y)) e = cc
+answer_same (Err Lines) (Err (Refused q)) e = absurd (not_lines q (sym e))
+answer_same (Err Lines) (Err Lines) e = refl
 
 module _ (st : Station) (card c : ℕ) (out : List ℕ) where
   abbrev tests : List Test
@@ -67,23 +68,23 @@ module _ (st : Station) (card c : ℕ) (out : List ℕ) where
   told = n_at st c ∷ quarter_at st c ∷ []
 
   -- NO SECOND ANSWER AND NO SECOND OUTPUT FITS
-  once : (r q : Answer × List ℕ) → Writes st card c out r.0 r.1 → Writes st card c out q.0 q.1 → r ≡ q
+  once : (r q : Result (ℕ × ℕ) Unwritten × List ℕ) → Writes st card c out r.0 r.1 → Writes st card c out q.0 q.1 → r ≡ q
   unfolding Writes
-  once r q a b = ap₂ (λ (x : Answer) (y : List ℕ). (x, y)) (answer_same r.0 q.0 (a.answer ∙ sym b.answer)) (a.output ∙ sym b.output)
+  once r q a b = ap₂ (λ (x : Result (ℕ × ℕ) Unwritten) (y : List ℕ). (x, y)) (answer_same r.0 q.0 (a.answer ∙ sym b.answer)) (a.output ∙ sym b.output)
 
   -- ---- there is one
-  refused_so : (why : Refusal) → refusal_paper why ≡ answer_of tests told → OneAnswer (Answer × List ℕ) (λ r. Writes st card c out r.0 r.1)
+  refused_so : (why : Refusal) → refusal_paper why ≡ answer_of tests told → OneAnswer (Result (ℕ × ℕ) Unwritten × List ℕ) (λ r. Writes st card c out r.0 r.1)
   unfolding Writes
   refused_so why e =
-      one (Answer × List ℕ) (λ r. Writes st card c out r.0 r.1) once (Refused why, out)
+      one (Result (ℕ × ℕ) Unwritten × List ℕ) (λ r. Writes st card c out r.0 r.1) once (Err (Refused why), out)
       (record { answer = e; output = refusal_leaves (first_of tests) (place_of tests) told (text_at st c) out why e })
 
-  answers : OneAnswer (Answer × List ℕ) (λ r. Writes st card c out r.0 r.1)
+  answers : OneAnswer (Result (ℕ × ℕ) Unwritten × List ℕ) (λ r. Writes st card c out r.0 r.1)
   unfolding Writes
   answers = by (is_served card c) refl (is_there st c) refl (is_day st c && is_four_years st c) refl (eqb (length out) record_bytes) refl
     where
       by : (t : Bool) → is_served card c ≡ t → (u : Bool) → is_there st c ≡ u → (v : Bool) → (is_day st c && is_four_years st c) ≡ v → (w : Bool) → eqb (length out) record_bytes ≡ w
-          → OneAnswer (Answer × List ℕ) (λ r. Writes st card c out r.0 r.1)
+          → OneAnswer (Result (ℕ × ℕ) Unwritten × List ℕ) (λ r. Writes st card c out r.0 r.1)
       by false s u p v q w x =
           ⊎_elim (λ (z : first_of (gate_tests card c) ≡ 0). absurd (true≢false (sym (zero_served card c z) ∙ s)))
           (λ (f : Fitting (gate_tests card c)). refused_so f.refusal (f.says [] ∙ sym (shut_says_lem card c (test 13 (not (is_there st c)) ∷ rest) told s)))
@@ -93,13 +94,13 @@ module _ (st : Station) (card c : ℕ) (out : List ℕ) where
       by true s true p true q false x =
           let e : 17 ∷ [] ≡ answer_of tests told = sym (open_says card c (test 13 (not (is_there st c)) ∷ rest) told s ∙ rw (p, q, x)) in
           let f = first_given tests told e in
-          one (Answer × List ℕ) (λ r. Writes st card c out r.0 r.1) once (Lines, out) (record { answer = e; output = rw f })
+          one (Result (ℕ × ℕ) Unwritten × List ℕ) (λ r. Writes st card c out r.0 r.1) once (Err Lines, out) (record { answer = e; output = rw f })
       by true s true p true q true x =
           let e : 0 ∷ told ≡ answer_of tests told = sym (open_says card c (test 13 (not (is_there st c)) ∷ rest) told s ∙ rw (p, q, x)) in
           let f = first_given tests told e in
-          one (Answer × List ℕ) (λ r. Writes st card c out r.0 r.1) once (Written (n_at st c) (quarter_at st c), text_at st c) (record { answer = e; output = rw f })
+          one (Result (ℕ × ℕ) Unwritten × List ℕ) (λ r. Writes st card c out r.0 r.1) once (Ok (n_at st c, quarter_at st c), text_at st c) (record { answer = e; output = rw f })
 
-  module _ (r : Answer) (out' : List ℕ) (a : Writes st card c out r out') where
+  module _ (r : Result (ℕ × ℕ) Unwritten) (out' : List ℕ) (a : Writes st card c out r out') where
     day_out : is_served card c ≡ true → is_there st c ≡ true → is_day st c ≡ false → answer_paper r ≡ 10 ∷ 26 ∷ []
     unfolding Writes
     day_out s p d = a.answer ∙ open_says card c (test 13 (not (is_there st c)) ∷ rest) told s ∙ rw (p, d)
@@ -119,7 +120,7 @@ module _ (st : Station) (card c : ℕ) (out : List ℕ) where
         by (suc k) e m = e
 
   -- ---- a record that is written
-  written : (n quarter : ℕ) (out' : List ℕ) → Writes st card c out (Written n quarter) out' → IsWritten st c n quarter out'
+  written : (n quarter : ℕ) (out' : List ℕ) → Writes st card c out (Ok (n, quarter)) out' → IsWritten st c n quarter out'
   unfolding Writes text_at
   written n quarter out' a =
       let f = first_given tests told a.answer in

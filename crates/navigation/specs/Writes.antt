@@ -1,7 +1,8 @@
 -- The navigation record of a channel (request 11): "It writes one record from an immediate record, the four-year number of string 5 of the same frame, and
 -- the book's carrier number for n". Of every station, in the words of the station's queries alone.
 -- Assumes nothing.
-use Rattle.std.specs.Prelude.{ℕ, ◌+◌, ◌*◌, Bool, not, ◌&&◌, List, [], ◌∷◌, ◌++◌, eqb, leb, nat_abs, length}
+use Rattle.std.specs.Prelude.{ℕ, ◌+◌, ◌*◌, Bool, not, ◌&&◌, List, [], ◌∷◌, ◌++◌, eqb, leb, nat_abs, length, Result, Ok, Err}
+use Rattle.navigation.specs.declared.Unwritten.{Unwritten}
 use Rattle.strings.specs.Pick.{pick}
 use Rattle.strings.specs.Numbers.{refusal_paper, Test, test, test_at, Answers}
 use Rattle.records.specs.declared.named.ImmediateWords.{ImmediateWords}
@@ -14,8 +15,7 @@ use Rattle.station.specs.Station.{gate_tests}
 use Rattle.station.specs.Queries.{kept_at}
 use Rattle.navigation_queries.specs.Five.{is_five_at, five_at}
 use Rattle.navigation_queries.specs.Carrier.{has_entry, carrier_at}
-use Rattle.navigation.specs.declared.Answer.{Answer}
-use Rattle.navigation.specs.declared.Answer.TheVariants.{Written, Refused, Lines}
+use Rattle.navigation.specs.declared.Unwritten.TheVariants.{Refused, Lines}
 
 -- ---- what it is written from
 -- "an immediate record": its words; among them n, NT and tb
@@ -74,15 +74,15 @@ quarter_of n4 nt tb = day_of n4 nt * 96 + tb
 abbrev pub quarter_at : Station → ℕ → ℕ
 quarter_at st c = quarter_of (n4_at st c) (nt_at st c) (tb_at st c)
 
-abbrev pub answer_paper : Answer → List ℕ
-answer_paper (Written n quarter) = 0 ∷ n ∷ quarter ∷ []
-answer_paper (Refused r) = refusal_paper r
-answer_paper Lines = 17 ∷ []
+abbrev pub answer_paper : Result (ℕ × ℕ) Unwritten → List ℕ
+answer_paper (Ok (n, quarter)) = 0 ∷ n ∷ quarter ∷ []
+answer_paper (Err (Refused r)) = refusal_paper r
+answer_paper (Err Lines) = 17 ∷ []
 
 -- the four lines
 unfoldable pub text_at : Station → ℕ → List ℕ
 text_at st c = record_text (words_at st c) (five_at st c).n4 (carrier_at st (n_at st c))
 
 -- a record asked for by a card: what it is answered, and the output after it; "Refusals leave outputs untouched"
-unfoldable pub Writes : Station → ℕ → ℕ → List ℕ → Answer → List ℕ → Type 0
+unfoldable pub Writes : Station → ℕ → ℕ → List ℕ → Result (ℕ × ℕ) Unwritten → List ℕ → Type 0
 Writes st card c out r out' = Answers (record_tests st card c (length out)) (n_at st c ∷ quarter_at st c ∷ []) (text_at st c) out (answer_paper r) out'

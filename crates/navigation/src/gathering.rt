@@ -2,31 +2,21 @@
 ghost use Rattle.std.specs.Prelude.{◌≡◌};
 ghost use Rattle.navigation.specs.Gathers.{Gathers};
 
-use crate::Gathered;
-use navigation_queries::{CarrierFound, FiveFound, carrier_of, five_of};
-use station::{RecordFound, Station, immediate_of};
+use navigation_queries::{carrier_of, five_of};
+use records::ImmediateWords;
+use station::{Station, immediate_of};
 use strings::Refusal;
 
-// The record of a channel, string 5 of its frame, and the entry of its satellite. A satellite number that is no
-// slot has no entry.
-pub fn gather(st: Station, card: u8, channel: u8) -> Gathered
+// The words of strings 1 to 4 of a channel's record, N4 of string 5 of its frame, and the carrier number of its
+// satellite's entry. A satellite number that is no slot has no entry.
+pub fn gather(st: Station, card: u8, channel: u8) -> Result<(ImmediateWords, i32, i32), Refusal>
     ensures { Gathers st card channel result }
 {
-    let found = immediate_of(st, card, channel);
-    match found {
-        RecordFound::Refused(why) => Gathered::Refused(why),
-        RecordFound::Found(words, _) => {
-            let five = five_of(st, card, channel);
-            match five {
-                FiveFound::Refused(why) => Gathered::Refused(why),
-                FiveFound::Found(string5) => {
-                    let carrier = carrier_of(st, card, words.four.n as u8);
-                    match carrier {
-                        CarrierFound::Refused(_) => Gathered::Refused(Refusal::Nothing),
-                        CarrierFound::Found(h) => Gathered::All(words, string5.n4, h),
-                    }
-                }
-            }
-        }
+    let (words, _) = immediate_of(st, card, channel)?;
+    let string5 = five_of(st, card, channel)?;
+    let carrier = carrier_of(st, card, words.four.n as u8);
+    match carrier {
+        Err(_) => Err(Refusal::Nothing),
+        Ok(h) => Ok((words, string5.n4, h)),
     }
 }

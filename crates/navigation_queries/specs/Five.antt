@@ -1,7 +1,8 @@
 -- String 5 beside a record (request 11): "the four-year number of string 5 of the same frame"; "the immediate record now keeps its frame's start, and once
 -- the row holds another frame its string 5 counts as missing." Of every station.
 -- Assumes nothing.
-use Rattle.std.specs.Prelude.{ℕ, Bool, not, ◌&&◌, List, [], ◌∷◌, ◌++◌, ◌≡◌}
+use Rattle.std.specs.Prelude.{ℕ, Bool, not, ◌&&◌, List, [], ◌∷◌, ◌++◌, ◌≡◌, Result, Ok, Err}
+use Rattle.strings.specs.declared.Refusal.{Refusal}
 use Rattle.strings.specs.Numbers.{refusal_paper, Test, test, answer_of}
 use Rattle.records.specs.declared.kinds.Kind.TheVariants.{Five}
 use Rattle.records.specs.declared.named.String5.{String5}
@@ -12,8 +13,6 @@ use Rattle.channel.specs.declared.Row.{Row}
 use Rattle.channel.specs.Row.{frame_of, still_holds}
 use Rattle.station.specs.declared.Station.{Station}
 use Rattle.station.specs.Station.{row_at, held_at, gate_tests}
-use Rattle.navigation_queries.specs.declared.FiveFound.{FiveFound}
-use Rattle.navigation_queries.specs.declared.FiveFound.TheVariants.{Found, Refused}
 
 -- a row has a record, still holds the frame that it was read from, by its start, and has string 5 of it
 unfoldable pub has_five : Row → Bool
@@ -35,11 +34,11 @@ is_five_at st c = has_five (row_at st c)
 abbrev pub five_tests : Station → ℕ → ℕ → List Test
 five_tests st card c = gate_tests card c ++ (test 13 (not (is_five_at st c)) ∷ [])
 
-abbrev pub five_paper : FiveFound → List ℕ
-five_paper (Found w) = 0 ∷ []
-five_paper (Refused q) = refusal_paper q
+abbrev pub five_paper : Result String5 Refusal → List ℕ
+five_paper (Ok w) = 0 ∷ []
+five_paper (Err q) = refusal_paper q
 
 -- and where it is there, its words
-pub record FindsFive (st : Station) (card c : ℕ) (r : FiveFound) : Type 0 where
+pub record FindsFive (st : Station) (card c : ℕ) (r : Result String5 Refusal) : Type 0 where
   pub answer : five_paper r ≡ answer_of (five_tests st card c) []
-  pub words : (w : String5) → r ≡ Found w → w ≡ five_at st c
+  pub words : (w : String5) → r ≡ Ok w → w ≡ five_at st c

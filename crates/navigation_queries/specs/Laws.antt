@@ -1,6 +1,8 @@
 -- What is proved of the two queries: one record, `laws` in `proofs/Laws.antt`. Of every station, and over any calls.
 -- Assumes nothing.
-use Rattle.std.specs.Prelude.{ℕ, Bool, true, ◌&&◌, List, [], ◌∷◌, ◌≡◌}
+use Rattle.std.specs.Prelude.{ℕ, Bool, true, ◌&&◌, List, [], ◌∷◌, ◌≡◌, Result, ℤ}
+use Rattle.strings.specs.declared.Refusal.{Refusal}
+use Rattle.records.specs.declared.named.String5.{String5}
 use Rattle.strings.specs.Pick.{pick}
 use Rattle.strings.specs.Numbers.{numbers_of, Exactly}
 use Rattle.channel.specs.Frame.{Frame}
@@ -11,8 +13,6 @@ use Rattle.station.specs.Queries.{entry_tests}
 use Rattle.station.specs.Demand1.{OneAnswer}
 use Rattle.station.specs.History.{Call, calls_on, Runs}
 use Rattle.station.specs.Isolation.{AgreeFor}
-use Rattle.navigation_queries.specs.declared.FiveFound.{FiveFound}
-use Rattle.navigation_queries.specs.declared.CarrierFound.{CarrierFound}
 use Rattle.navigation_queries.specs.Five.{five_of, five_at, five_tests, five_paper, FindsFive}
 use Rattle.navigation_queries.specs.Carrier.{carrier_paper, FindsCarrier}
 
@@ -24,20 +24,20 @@ has_both f = makes_record f && f.has 5
 
 -- what a card is answered about one of its channels, by the frame that the calls on this channel leave: its string 5, or 13
 pub record FiveAfter (cs : List Call) (st : Station) (card c : ℕ) : Type 0 where
-  pub answer : (r : FiveFound) → FindsFive st card c r → five_paper r ≡ pick (has_both (held_after (calls_on c cs))) (0 ∷ []) (13 ∷ [])
+  pub answer : (r : Result String5 Refusal) → FindsFive st card c r → five_paper r ≡ pick (has_both (held_after (calls_on c cs))) (0 ∷ []) (13 ∷ [])
   pub words : five_at st c ≡ five_of ((held_after (calls_on c cs)).text 5)
 
 pub record AllLaws : Type 0 where
   -- "Every call answers, for every input and every station it is handed", and no second answer fits
-  pub five_answers : (st : Station) (card c : ℕ) → OneAnswer FiveFound (FindsFive st card c)
-  pub carrier_answers : (st : Station) (card slot : ℕ) → OneAnswer CarrierFound (FindsCarrier st card slot)
+  pub five_answers : (st : Station) (card c : ℕ) → OneAnswer (Result String5 Refusal) (FindsFive st card c)
+  pub carrier_answers : (st : Station) (card slot : ℕ) → OneAnswer (Result ℤ Refusal) (FindsCarrier st card slot)
   -- "The first that fits is given, and given only then", in this order
-  pub five_exactly : (st : Station) (card c : ℕ) (r : FiveFound) → FindsFive st card c r → Exactly (five_tests st card c) (five_paper r)
-  pub carrier_exactly : (st : Station) (card slot : ℕ) (r : CarrierFound) → FindsCarrier st card slot r → Exactly (entry_tests st card slot) (carrier_paper r)
+  pub five_exactly : (st : Station) (card c : ℕ) (r : Result String5 Refusal) → FindsFive st card c r → Exactly (five_tests st card c) (five_paper r)
+  pub carrier_exactly : (st : Station) (card slot : ℕ) (r : Result ℤ Refusal) → FindsCarrier st card slot r → Exactly (entry_tests st card slot) (carrier_paper r)
   pub five_order : (st : Station) (card c : ℕ) → numbers_of (five_tests st card c) ≡ 16 ∷ 1 ∷ 15 ∷ 13 ∷ []
   pub carrier_order : (st : Station) (card slot : ℕ) → numbers_of (entry_tests st card slot) ≡ 16 ∷ 14 ∷ 13 ∷ []
   -- string 5 is there exactly where the held frame is still the record's and has it
   pub five_after : (cs : List Call) (st : Station) → Runs cs st → (card c : ℕ) → is_served card c ≡ true → FiveAfter cs st card c
   -- "Whatever one card offers or resets, the other's row answers .. are the same": of two stations that agree for a card, on every channel number. A carrier
   -- number is the book's, and may differ
-  pub fives_alike : (card : ℕ) (st st' : Station) → AgreeFor card st st' → (c : ℕ) (r r' : FiveFound) → FindsFive st card c r → FindsFive st' card c r' → r ≡ r'
+  pub fives_alike : (card : ℕ) (st st' : Station) → AgreeFor card st st' → (c : ℕ) (r r' : Result String5 Refusal) → FindsFive st card c r → FindsFive st' card c r' → r ≡ r'

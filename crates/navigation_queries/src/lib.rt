@@ -11,40 +11,20 @@ use book::odd_words;
 use channel::{Row, has_string};
 use immediate::has_record;
 use records::{Kind, String5, string5_of};
-use station::{EntryFound, Gate, Station, enter, entry_of};
+use station::{Station, enter, entry_of};
 use strings::Refusal;
 use words::values_in;
 
-// The words of string 5, or why not.
-#[derive(Clone, Copy)]
-pub enum FiveFound {
-    Found(String5),
-    Refused(Refusal),
-}
-
-// The carrier number H of an entry, or why not.
-#[derive(Clone, Copy)]
-pub enum CarrierFound {
-    Found(i32),
-    Refused(Refusal),
-}
-
 // The words of string 5 of the frame that a channel's record was read from, while the channel still holds
 // that frame.
-pub fn five_of(st: Station, card: u8, channel: u8) -> FiveFound
+pub fn five_of(st: Station, card: u8, channel: u8) -> Result<String5, Refusal>
     ensures { FindsFive st card channel result }
 {
-    let gate = enter(card, channel);
-    match gate {
-        Gate::Shut(why) => FiveFound::Refused(why),
-        Gate::Open(i) => {
-            let row = st.rows[i];
-            if !has_five(row) {
-                return FiveFound::Refused(Refusal::Nothing);
-            }
-            let all = row.strings;
-            FiveFound::Found(five_words(all))
-        }
+    let row = st.rows[enter(card, channel)?];
+    if has_five(row) {
+        Ok(five_words(row.strings))
+    } else {
+        Err(Refusal::Nothing)
     }
 }
 
@@ -70,15 +50,9 @@ pub fn five_words(all: [u8; 165]) -> String5
 }
 
 // The carrier number of the entry of a slot.
-pub fn carrier_of(st: Station, card: u8, slot: u8) -> CarrierFound
+pub fn carrier_of(st: Station, card: u8, slot: u8) -> Result<i32, Refusal>
     ensures { FindsCarrier st card slot result }
 {
-    let found = entry_of(st, card, slot);
-    match found {
-        EntryFound::Refused(why) => CarrierFound::Refused(why),
-        EntryFound::Found(e) => {
-            let odd = odd_words(e);
-            CarrierFound::Found(odd.h)
-        }
-    }
+    let e = entry_of(st, card, slot)?;
+    Ok(odd_words(e).h)
 }

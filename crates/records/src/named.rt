@@ -5,6 +5,9 @@ ghost use Rattle.records.specs.Records.{string1_of, string1_list, string2_of, st
 
 use crate::kinds::Kind;
 
+// The eight kinds have each a struct and its two conversions: they differ in the names of their words, so a
+// trait would want the same sixteen bodies.
+
 // String 1.
 #[derive(Clone, Copy)]
 pub struct String1 {

@@ -12,16 +12,13 @@ use lib.Dec.{eqb, lit<, lit≤}
 use lib.ListN.{length, get_or}
 use lib.Pow.{ones_lt}
 use borrow.Author.Tests.{ne_eqb}
-use Rattle.strings.specs.declared.Written.{Written}
-use Rattle.strings.specs.declared.Written.TheVariants.{Done, Refused as NotWritten}
 use Rattle.strings.specs.declared.Refusal.{Refusal}
+use Rattle.std.specs.Prelude.{Result, Ok, Err, ⊤}
 use Rattle.strings.specs.declared.Refusal.TheVariants.{Shape, Idle, Room}
 use Rattle.strings.specs.Pick.{pick}
 use Rattle.strings.specs.Number.{bit_of, number_from_bits, number_of, misshapen, bytes_of_string}
 use Rattle.relative.specs.declared.Polarity.{Polarity}
 use Rattle.relative.specs.declared.Polarity.TheVariants.{Upright, Inverted}
-use Rattle.relative.specs.declared.Decoded.{Decoded}
-use Rattle.relative.specs.declared.Decoded.TheVariants.{Read, Refused}
 use Rattle.relative.specs.Relative.{sent, write_relative, read_bit, read_relative, inverse}
 use Rattle.relative.specs.Polarity.{first_symbol, polarity_of, polarity_number, turned}
 use Rattle.strings.specs.Numbers.{test, first_of, place_of, said_by, Exactly}
@@ -180,31 +177,31 @@ polarity_back Inverted = refl
 pub polarity_same : (p q : Polarity) → polarity_number p ≡ polarity_number q → p ≡ q
 polarity_same p q e = sym (polarity_back p) ∙ ap polarity_by e ∙ polarity_back q
 
-pub decoded_same : (d e : Decoded) → decoded_paper d ≡ decoded_paper e → d ≡ e
-decoded_same (Read p) (Read q) e = ap Read (polarity_same p q (ap (λ (l : List ℕ). get_or l 1 0) e))
-decoded_same (Read p) (Refused r) e = absurd (not_taken r _ (sym e))
-decoded_same (Refused r) (Read p) e = absurd (not_taken r _ e)
-decoded_same (Refused r) (Refused q) e = ap Refused (refusal_same r q e)
+pub decoded_same : (d e : Result Polarity Refusal) → decoded_paper d ≡ decoded_paper e → d ≡ e
+decoded_same (Ok p) (Ok q) e = ap Ok (polarity_same p q (ap (λ (l : List ℕ). get_or l 1 0) e))
+decoded_same (Ok p) (Err r) e = absurd (not_taken r _ (sym e))
+decoded_same (Err r) (Ok p) e = absurd (not_taken r _ e)
+decoded_same (Err r) (Err q) e = ap Err (refusal_same r q e)
 
 -- ---- the answers of the calls, test by test: "Relative code, reading: 12, 2; writing: 12, 2, 4"
 module _ (s out : List ℕ) where
-  pub read_no_room : (length out ≡ 11 → ⊥) → ReadsRelative s out (Refused Room) out
+  pub read_no_room : (length out ≡ 11 → ⊥) → ReadsRelative s out (Err Room) out
   unfolding ReadsRelative
   read_no_room h = refuses 11 (no_room_lem out h)
 
-  pub read_no_shape : length out ≡ 11 → misshapen s ≡ true → ReadsRelative s out (Refused Shape) out
+  pub read_no_shape : length out ≡ 11 → misshapen s ≡ true → ReadsRelative s out (Err Shape) out
   unfolding ReadsRelative
   read_no_shape h e = goes_on 12 (has_room_lem out h) (refuses 1 e)
 
-  pub reads : length out ≡ 11 → misshapen s ≡ false → ReadsRelative s out (Read (polarity_of (number_of s))) (bytes_of_string (read_relative (number_of s)))
+  pub reads : length out ≡ 11 → misshapen s ≡ false → ReadsRelative s out (Ok (polarity_of (number_of s))) (bytes_of_string (read_relative (number_of s)))
   unfolding ReadsRelative
   reads h e = goes_on 12 (has_room_lem out h) (goes_on 2 e (takes (ap (λ (b : ℕ). 0 ∷ b ∷ []) (polarity_told (number_of s))) refl))
 
-  pub write_no_room : (length out ≡ 11 → ⊥) → WritesRelative s out (NotWritten Room) out
+  pub write_no_room : (length out ≡ 11 → ⊥) → WritesRelative s out (Err Room) out
   unfolding WritesRelative
   write_no_room h = refuses 11 (no_room_lem out h)
 
-  pub write_no_shape : length out ≡ 11 → misshapen s ≡ true → WritesRelative s out (NotWritten Shape) out
+  pub write_no_shape : length out ≡ 11 → misshapen s ≡ true → WritesRelative s out (Err Shape) out
   unfolding WritesRelative
   write_no_shape h e = goes_on 12 (has_room_lem out h) (refuses 1 e)
 
@@ -212,69 +209,69 @@ module _ (s out : List ℕ) where
   abbrev last_fits : Bool
   last_fits = (get_or (writing_tests s out) 2 (test 0 false)).fits
 
-  pub last_refuses : length out ≡ 11 → misshapen s ≡ false → last_fits ≡ true → WritesRelative s out (NotWritten Idle) out
+  pub last_refuses : length out ≡ 11 → misshapen s ≡ false → last_fits ≡ true → WritesRelative s out (Err Idle) out
   unfolding WritesRelative
   last_refuses h e i = goes_on 12 (has_room_lem out h) (goes_on 2 e (refuses 3 i))
 
-  pub last_takes : length out ≡ 11 → misshapen s ≡ false → last_fits ≡ false → WritesRelative s out Done (bytes_of_string (write_relative (number_of s)))
+  pub last_takes : length out ≡ 11 → misshapen s ≡ false → last_fits ≡ false → WritesRelative s out (Ok tt) (bytes_of_string (write_relative (number_of s)))
   unfolding WritesRelative
   last_takes h e i = goes_on 12 (has_room_lem out h) (goes_on 2 e (goes_on 4 i (takes refl refl)))
 
   -- it is the test of bit 85
-  pub write_idle : length out ≡ 11 → misshapen s ≡ false → is_idle (number_of s) ≡ true → WritesRelative s out (NotWritten Idle) out
+  pub write_idle : length out ≡ 11 → misshapen s ≡ false → is_idle (number_of s) ≡ true → WritesRelative s out (Err Idle) out
   write_idle h e i = last_refuses h e i
 
   pub writes : length out ≡ 11 → misshapen s ≡ false → is_idle (number_of s) ≡ false
-      → WritesRelative s out Done (bytes_of_string (write_relative (number_of s)))
+      → WritesRelative s out (Ok tt) (bytes_of_string (write_relative (number_of s)))
   writes h e i = last_takes h e i
 
 -- ---- no second answer fits, and each number is given exactly where its test is the first to fit
 module _ (s out : List ℕ) where
-  pub reads_once : (r : Decoded) (out' : List ℕ) (q : Decoded) (out'' : List ℕ) → ReadsRelative s out r out' → ReadsRelative s out q out''
+  pub reads_once : (r : Result Polarity Refusal) (out' : List ℕ) (q : Result Polarity Refusal) (out'' : List ℕ) → ReadsRelative s out r out' → ReadsRelative s out q out''
       → (r ≡ q) × (out' ≡ out'')
   unfolding ReadsRelative
   reads_once r out' q out'' a b = let e = same_answer a b in (decoded_same r q e.0, e.1)
 
-  pub writes_once : (r : Written) (out' : List ℕ) (q : Written) (out'' : List ℕ) → WritesRelative s out r out' → WritesRelative s out q out''
+  pub writes_once : (r : Result ⊤ Refusal) (out' : List ℕ) (q : Result ⊤ Refusal) (out'' : List ℕ) → WritesRelative s out r out' → WritesRelative s out q out''
       → (r ≡ q) × (out' ≡ out'')
   unfolding WritesRelative
   writes_once r out' q out'' a b = let e = same_answer a b in (written_same r q e.0, e.1)
 
-  pub reads_exactly : (r : Decoded) (out' : List ℕ) → ReadsRelative s out r out' → Exactly (reading_tests s out) (decoded_paper r)
+  pub reads_exactly : (r : Result Polarity Refusal) (out' : List ℕ) → ReadsRelative s out r out' → Exactly (reading_tests s out) (decoded_paper r)
   unfolding ReadsRelative
   reads_exactly r out' a = exactly tt a
 
-  pub writes_exactly : (r : Written) (out' : List ℕ) → WritesRelative s out r out' → Exactly (writing_tests s out) (written_paper r)
+  pub writes_exactly : (r : Result ⊤ Refusal) (out' : List ℕ) → WritesRelative s out r out' → Exactly (writing_tests s out) (written_paper r)
   unfolding WritesRelative
   writes_exactly r out' a = exactly tt a
 
 -- "Refusals leave outputs untouched"
 module _ (s out : List ℕ) (q : Refusal) (out' : List ℕ) where
-  pub reads_untouched : ReadsRelative s out (Refused q) out' → out' ≡ out
+  pub reads_untouched : ReadsRelative s out (Err q) out' → out' ≡ out
   unfolding ReadsRelative
   reads_untouched a = refused_left q a
 
-  pub writes_untouched : WritesRelative s out (NotWritten q) out' → out' ≡ out
+  pub writes_untouched : WritesRelative s out (Err q) out' → out' ≡ out
   unfolding WritesRelative
   writes_untouched a = refused_left q a
 
 -- ---- over the calls: what they make of the bytes of a string
-reads_string : (x : ℕ) (out : List ℕ) → x < 2 ^ 85 → length out ≡ 11 → ReadsRelative (bytes_of_string x) out (Read (polarity_of x)) (bytes_of_string (read_relative x))
+reads_string : (x : ℕ) (out : List ℕ) → x < 2 ^ 85 → length out ≡ 11 → ReadsRelative (bytes_of_string x) out (Ok (polarity_of x)) (bytes_of_string (read_relative x))
 reads_string x out h n =
-    subst (λ (y : ℕ). ReadsRelative (bytes_of_string x) out (Read (polarity_of y)) (bytes_of_string (read_relative y))) (string_number_lem x h)
+    subst (λ (y : ℕ). ReadsRelative (bytes_of_string x) out (Ok (polarity_of y)) (bytes_of_string (read_relative y))) (string_number_lem x h)
     (reads (bytes_of_string x) out n (string_shaped x h))
 
-writes_string : (n : ℕ) (out : List ℕ) → n < 2 ^ 84 → length out ≡ 11 → WritesRelative (bytes_of_string n) out Done (bytes_of_string (write_relative n))
+writes_string : (n : ℕ) (out : List ℕ) → n < 2 ^ 84 → length out ≡ 11 → WritesRelative (bytes_of_string n) out (Ok tt) (bytes_of_string (write_relative n))
 writes_string n out h l =
     let g : n < 2 ^ 85 = omega arith in
     let e = string_number_lem n g in
     let plain : bit_of (number_of (bytes_of_string n)) 85 ≡ 0 = ap (λ (y : ℕ). bit_of y 85) e ∙ high_bit n 85 84 h (lit< tt) in
-    subst (λ (y : ℕ). WritesRelative (bytes_of_string n) out Done (bytes_of_string (write_relative y))) e
+    subst (λ (y : ℕ). WritesRelative (bytes_of_string n) out (Ok tt) (bytes_of_string (write_relative y))) e
     (writes (bytes_of_string n) out l (string_shaped n g) (ap (λ (b : ℕ). eqb b 1) plain))
 
 -- WHAT THE POLARITY MEANS
-not_both : Read Upright ≡ Read Inverted → ⊥
-not_both e = let z : ◌≡◌ {A = ℕ} 0 1 = ap (λ (d : Decoded). get_or (decoded_paper d) 1 0) e in omega arith
+not_both : ◌≡◌ {A = Result Polarity Refusal} (Ok Upright) (Ok Inverted) → ⊥
+not_both e = let z : ◌≡◌ {A = ℕ} 0 1 = ap (λ (d : Result Polarity Refusal). get_or (decoded_paper d) 1 0) e in omega arith
 
 -- no string is its own inverse
 not_own_inverse : (x : ℕ) → x < 2 ^ 85 → bytes_of_string x ≡ bytes_of_string (inverse x) → ⊥
@@ -284,15 +281,15 @@ not_own_inverse x h e =
     omega (arith, bit_lt x 85)
 
 pub polarity_means : (x : ℕ) → x < 2 ^ 85 → (out back : List ℕ) → length out ≡ 11 → length back ≡ 11
-    → (r : Decoded) (q : Written) (out' back' : List ℕ) → ReadsRelative (bytes_of_string x) out r out' → WritesRelative out' back q back'
+    → (r : Result Polarity Refusal) (q : Result ⊤ Refusal) (out' back' : List ℕ) → ReadsRelative (bytes_of_string x) out r out' → WritesRelative out' back q back'
     → Meant x r q back'
 unfolding first_symbol
 polarity_means x h out back l m r q out' back' a b =
     let y = read_relative x in
-    let d = reads_once (bytes_of_string x) out r out' (Read (polarity_of x)) (bytes_of_string y) a (reads_string x out h l) in
-    let e = writes_once (bytes_of_string y) back q back' Done (bytes_of_string (write_relative y))
+    let d = reads_once (bytes_of_string x) out r out' (Ok (polarity_of x)) (bytes_of_string y) a (reads_string x out h l) in
+    let e = writes_once (bytes_of_string y) back q back' (Ok tt) (bytes_of_string (write_relative y))
     (subst (λ (s : List ℕ). WritesRelative s back q back') d.1 b) (writes_string y back (read_lt x) m) in
-    let told : (k : ℕ) → bit_of x 85 ≡ k → r ≡ Read (polarity_by k) = (λ k z. d.0 ∙ ap (λ (c : ℕ). Read (polarity_by c)) z) in
+    let told : (k : ℕ) → bit_of x 85 ≡ k → r ≡ Ok (polarity_by k) = (λ k z. d.0 ∙ ap (λ (c : ℕ). Ok (polarity_by c)) z) in
     ⊎_elim
     (λ (z : bit_of x 85 ≡ 1).
     let is = told 1 z in
@@ -321,14 +318,14 @@ unfolding first_symbol
 first_written n h = bit_written n 85 (lit≤ tt) (lit≤ tt) ∙ ap (λ (b : ℕ). (b + 0) % 2) (high_bit n 85 84 h (lit< tt))
 
 pub written_then_read : (n : ℕ) → n < 2 ^ 84 → (out back : List ℕ) → length out ≡ 11 → length back ≡ 11
-    → (r : Written) (q : Decoded) (out' back' : List ℕ) → WritesRelative (bytes_of_string n) out r out' → ReadsRelative out' back q back'
-    → (r ≡ Done) × ((q ≡ Read Upright) × (back' ≡ bytes_of_string n))
+    → (r : Result ⊤ Refusal) (q : Result Polarity Refusal) (out' back' : List ℕ) → WritesRelative (bytes_of_string n) out r out' → ReadsRelative out' back q back'
+    → (r ≡ Ok tt) × ((q ≡ Ok Upright) × (back' ≡ bytes_of_string n))
 written_then_read n h out back l m r q out' back' a b =
     let w = write_relative n in
-    let d = writes_once (bytes_of_string n) out r out' Done (bytes_of_string w) a (writes_string n out h l) in
-    let e = reads_once (bytes_of_string w) back q back' (Read (polarity_of w)) (bytes_of_string (read_relative w))
+    let d = writes_once (bytes_of_string n) out r out' (Ok tt) (bytes_of_string w) a (writes_string n out h l) in
+    let e = reads_once (bytes_of_string w) back q back' (Ok (polarity_of w)) (bytes_of_string (read_relative w))
     (subst (λ (s : List ℕ). ReadsRelative s back q back') d.1 b) (reads_string w back (written_lt n) m) in
-    (d.0, (e.0 ∙ ap (λ (b : ℕ). Read (polarity_by b)) (first_written n h), e.1 ∙ ap bytes_of_string (read_written n h)))
+    (d.0, (e.0 ∙ ap (λ (b : ℕ). Ok (polarity_by b)) (first_written n h), e.1 ∙ ap bytes_of_string (read_written n h)))
 
 -- the inverse has the other polarity
 pub first_turned : (x : ℕ) → first_symbol (inverse x) ≡ (first_symbol x + 1) % 2
@@ -345,17 +342,17 @@ polarity_turned x =
     (polarity_told (inverse x) ∙ first_turned x ∙ ap (λ (b : ℕ). (b + 1) % 2) (sym (polarity_told x)) ∙ sym (turned_number (polarity_of x)))
 
 -- A STRING AND ITS INVERSE ARE ANSWERED ALIKE BUT FOR THE POLARITY, and leave the same bytes
-turned_said : (r : Decoded) (b k : ℕ) (place : List ℕ) → decoded_paper r ≡ said_by k place (b ∷ [])
+turned_said : (r : Result Polarity Refusal) (b k : ℕ) (place : List ℕ) → decoded_paper r ≡ said_by k place (b ∷ [])
     → decoded_paper (other_way r) ≡ said_by k place ((b + 1) % 2 ∷ [])
-turned_said (Read p) b zero place e =
+turned_said (Ok p) b zero place e =
     let n : polarity_number p ≡ b = ap (λ (l : List ℕ). get_or l 1 0) e in
     ap (λ (c : ℕ). 0 ∷ c ∷ []) (turned_number p ∙ ap (λ (c : ℕ). (c + 1) % 2) n)
-turned_said (Refused q) b zero place e = absurd (not_taken q _ e)
-turned_said (Read p) b (suc k) place e = let z : ◌≡◌ {A = ℕ} 0 (suc k) = ap (λ (l : List ℕ). get_or l 0 0) e in absurd (omega arith)
-turned_said (Refused q) b (suc k) place e = e
+turned_said (Err q) b zero place e = absurd (not_taken q _ e)
+turned_said (Ok p) b (suc k) place e = let z : ◌≡◌ {A = ℕ} 0 (suc k) = ap (λ (l : List ℕ). get_or l 0 0) e in absurd (omega arith)
+turned_said (Err q) b (suc k) place e = e
 
 -- a reading goes by the shape, by what is read and by the first symbol
-reads_turned : (s t out : List ℕ) (r : Decoded) (out' : List ℕ) → misshapen s ≡ misshapen t → read_relative (number_of s) ≡ read_relative (number_of t)
+reads_turned : (s t out : List ℕ) (r : Result Polarity Refusal) (out' : List ℕ) → misshapen s ≡ misshapen t → read_relative (number_of s) ≡ read_relative (number_of t)
     → first_symbol (number_of t) ≡ (first_symbol (number_of s) + 1) % 2 → ReadsRelative s out r out' → ReadsRelative t out (other_way r) out'
 unfolding ReadsRelative
 reads_turned s t out r out' e f g a =
@@ -364,7 +361,7 @@ reads_turned s t out r out' e f g a =
       output = rw (← e, ← f) a.output;
     }
 
-pub inverse_reads_alike : (x : ℕ) → x < 2 ^ 85 → (out : List ℕ) (r q : Decoded) (out' out'' : List ℕ)
+pub inverse_reads_alike : (x : ℕ) → x < 2 ^ 85 → (out : List ℕ) (r q : Result Polarity Refusal) (out' out'' : List ℕ)
     → ReadsRelative (bytes_of_string x) out r out' → ReadsRelative (bytes_of_string (inverse x)) out q out'' → (q ≡ other_way r) × (out'' ≡ out')
 inverse_reads_alike x h out r q out' out'' a b =
     let y = inverse x in

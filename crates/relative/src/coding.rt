@@ -5,21 +5,21 @@ ghost use Rattle.relative.specs.Relative.{read_relative, write_relative};
 ghost use Rattle.relative.specs.Polarity.{polarity_of, polarity_number};
 ghost use Rattle.relative.specs.Calls.{ReadsRelative, WritesRelative};
 
-use crate::{Decoded, Polarity};
-use strings::{Refusal, Written, bit, flip_bit, well_shaped, wide};
+use crate::Polarity;
+use strings::{Refusal, bit, flip_bit, well_shaped, wide};
 
 // Reads a string from its symbols, and writes it plain. The answer tells which way up they came.
-pub fn from_relative(s: &[u8], out: &mut [u8]) -> Decoded
+pub fn from_relative(s: &[u8], out: &mut [u8]) -> Result<Polarity, Refusal>
     ensures { ReadsRelative s.now out.old result out.new }
 {
     if out.len() != 11 {
-        return Decoded::Refused(Refusal::Room);
+        return Err(Refusal::Room);
     }
     if !well_shaped(s) {
-        return Decoded::Refused(Refusal::Shape);
+        return Err(Refusal::Shape);
     }
     read_symbols(s, out);
-    Decoded::Read(polarity_in(s))
+    Ok(polarity_in(s))
 }
 
 // Only the first symbol, the one in the place of bit 85, shows the polarity: bit 85 itself is 0.
@@ -45,21 +45,21 @@ pub fn polarity_number(p: Polarity) -> u8
 }
 
 // Writes a plain string as its symbols. Its idle bit must be 0.
-pub fn to_relative(s: &[u8], out: &mut [u8]) -> Written
+pub fn to_relative(s: &[u8], out: &mut [u8]) -> Result<(), Refusal>
     ensures { WritesRelative s.now out.old result out.new }
 {
     if out.len() != 11 {
-        return Written::Refused(Refusal::Room);
+        return Err(Refusal::Room);
     }
     if !well_shaped(s) {
-        return Written::Refused(Refusal::Shape);
+        return Err(Refusal::Shape);
     }
     if bit(s, 85) == 1 {
-        return Written::Refused(Refusal::Idle);
+        return Err(Refusal::Idle);
     }
     out.copy_from_slice(s);
     send_symbols(out);
-    Written::Done
+    Ok(())
 }
 
 // Each bit is its symbol added to the symbol before, eight at a time: `before` is the byte sent
@@ -70,8 +70,7 @@ fn read_symbols(s: &[u8], out: &mut [u8])
     ensures { out.new ≡ bytes_of_string (read_relative (number_of s.now)) }
 {
     let mut before = s[0] / 128;
-    for k in 0..11 {
-        let here = s[k];
+    for (k, &here) in s.iter().enumerate() {
         let both = wide(before) * 256 + wide(here);
         out[k] = ((both ^ (both / 2)) % 256) as u8;
         before = here;
@@ -86,11 +85,9 @@ fn send_symbols(s: &mut [u8])
     requires { misshapen s.old ≡ false }
     ensures { s.new ≡ bytes_of_string (write_relative (number_of s.old)) }
 {
-    let mut i: u8 = 84;
-    while 1 <= i {
+    for i in (1..85).rev() {
         if bit(s, i + 1) == 1 {
             flip_bit(s, i);
         }
-        i -= 1;
     }
 }

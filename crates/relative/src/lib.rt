@@ -5,7 +5,6 @@
 mod coding;
 
 pub use coding::{from_relative, polarity_in, polarity_number, to_relative};
-use strings::Refusal;
 
 // Which way up the symbols came: the tracking loop can lock half a turn off, and then every one of
 // them is inverted.
@@ -13,11 +12,4 @@ use strings::Refusal;
 pub enum Polarity {
     Upright,
     Inverted,
-}
-
-// The answer of a reading: the polarity of what was read, or why not.
-#[derive(Clone, Copy)]
-pub enum Decoded {
-    Read(Polarity),
-    Refused(Refusal),
 }

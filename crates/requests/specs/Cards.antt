@@ -1,8 +1,10 @@
 -- Which request an op and its payload make, and which card asks. For any op and any bytes.
 -- Assumes nothing.
-use Rattle.std.specs.Prelude.{◌≡◌, ℕ, ◌-◌, ◌≤◌, Bool, List, [], ◌∷◌, length, drop, ◌==◌, slice_index, refl}
+use Rattle.std.specs.Prelude.{◌≡◌, ℕ, ◌-◌, Bool, true, false, List, [], ◌∷◌, length, drop, ◌==◌, slice_index, refl, Option, MatchOption}
 use Rattle.strings.specs.Pick.{pick, is_one_of}
 use Rattle.requests.specs.declared.cards.Asking.{Asking}
+use Rattle.requests.specs.declared.kinds.Request.{Request}
+use Rattle.requests.specs.Numbers.{number_of, is_request}
 
 -- "Requests 6 to 11, 13, 14 and 23 .. speak for card one"
 abbrev pub of_cards : List ℕ
@@ -24,12 +26,18 @@ card_of op payload = pick (names_card op) (slice_index payload 0) 1
 abbrev pub own_of : ℕ → List ℕ → List ℕ
 own_of op payload = pick (names_card op) (drop 1 payload) payload
 
--- the contract: where in the payload the request's own begins is told by its place
+-- an op that names a card, as the request 32 lower; None for every other
+abbrev pub NamesCard : ℕ → Option Request → Type 0
+NamesCard op r = MatchOption r (names_card op ≡ false) (λ k. (names_card op ≡ true) × (number_of k ≡ op - 32))
+
 pub record Asks (op : ℕ) (payload : List ℕ) (r : Asking) : Type 0 where
-  pub request : r.request ≡ request_of op payload
+  pub request : number_of r.request ≡ request_of op payload
   pub card : r.card ≡ card_of op payload
-  pub own : drop r.from payload ≡ own_of op payload
-  pub within : r.from ≤ length payload
+  pub own : r.own.now ≡ own_of op payload
+
+-- the contract: None where the number that it comes to is none of a request
+abbrev pub AsksIfAny : ℕ → List ℕ → Option Asking → Type 0
+AsksIfAny op payload r = MatchOption r (is_request (request_of op payload) ≡ false) (λ a. Asks op payload a)
 
 -- ---- computed
 pub record Known : Type 0 where

@@ -3,14 +3,21 @@ ghost use Rattle.std.specs.Prelude.{◌≡◌, ◌≤◌, slice_index};
 ghost use Rattle.strings.specs.Numbers.{verdict_paper};
 
 use crate::line::{Text, put_hex, put_next, put_text};
-use crate::words_told::put_record;
 use fields::Why;
-use relative::{Decoded, polarity_number};
-use strings::{Checked, Refusal, Verdict, Written};
-use words::Reading;
+use strings::{Refusal, Verdict};
 
-// What is used of the text for a request that is none, or of which the payload has no such length.
-pub(crate) const NO_LINE: usize = 0;
+// Why a request is not answered: it is none, or its payload has no such length; or its call says no.
+#[derive(Clone, Copy)]
+pub(crate) enum Unanswered {
+    Bad,
+    Refused(Refusal),
+}
+
+impl From<Refusal> for Unanswered {
+    fn from(r: Refusal) -> Unanswered {
+        Unanswered::Refused(r)
+    }
+}
 
 // `no N`, for RANGE `no 10 PLACE`.
 pub(crate) fn say_no(text: &mut Text, r: Refusal) -> usize
@@ -64,45 +71,11 @@ pub(crate) fn say_ok(text: &mut Text) -> usize
 }
 
 // `ok HEX`.
-pub(crate) fn say_written(text: &mut Text, w: Written, out: &[u8]) -> usize
+pub(crate) fn say_bytes(text: &mut Text, out: &[u8]) -> usize
     ensures { result ≤ 512 }
 {
-    match w {
-        Written::Refused(r) => say_no(text, r),
-        Written::Done => {
-            let hex = put_text(text, 0, b"ok ");
-            put_hex(text, hex, out)
-        }
-    }
-}
-
-// `ok HEX P`, P 0 where the symbols came upright and 1 where inverted.
-pub(crate) fn say_decoded(text: &mut Text, d: Decoded, out: &[u8]) -> usize
-    ensures { result ≤ 512 }
-{
-    match d {
-        Decoded::Refused(r) => say_no(text, r),
-        Decoded::Read(p) => {
-            let hex = put_text(text, 0, b"ok ");
-            let polarity = put_hex(text, hex, out);
-            put_next(text, polarity, polarity_number(p) as u64)
-        }
-    }
-}
-
-// `ok BIT HEX`, BIT 0 where the string was clean.
-pub(crate) fn say_checked(text: &mut Text, c: Checked, out: &[u8]) -> usize
-    ensures { result ≤ 512 }
-{
-    match c {
-        Checked::Refused(r) => say_no(text, r),
-        Checked::Taken(v) => {
-            let ok = say_ok(text);
-            let bit = put_next(text, ok, bit_of(v) as u64);
-            let hex = put_text(text, bit, b" ");
-            put_hex(text, hex, out)
-        }
-    }
+    let ok = put_text(text, 0, b"ok ");
+    put_hex(text, ok, out)
 }
 
 // The bit that was repaired, 0 where none was.
@@ -112,19 +85,5 @@ pub(crate) fn bit_of(v: Verdict) -> u8
     match v {
         Verdict::Clean => 0,
         Verdict::Repaired(i) => i,
-    }
-}
-
-// `ok M W1 W2 ..`, as many words as the kind has.
-pub(crate) fn say_read(text: &mut Text, r: Reading) -> usize
-    ensures { result ≤ 512 }
-{
-    match r {
-        Reading::Refused(q) => say_no(text, q),
-        Reading::Read(m, record) => {
-            let ok = say_ok(text);
-            let number = put_next(text, ok, m as u64);
-            put_record(text, number, record)
-        }
     }
 }

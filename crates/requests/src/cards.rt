@@ -2,7 +2,10 @@
 // higher have the card in the first byte of their payload.
 ghost use Rattle.std.specs.Prelude.{◌≡◌};
 ghost use Rattle.strings.specs.Pick.{is_one_of};
-ghost use Rattle.requests.specs.Cards.{of_cards, Asks};
+ghost use Rattle.requests.specs.Numbers.{number_of};
+ghost use Rattle.requests.specs.Cards.{of_cards, NamesCard, AsksIfAny};
+
+use crate::kinds::Request;
 
 // The card that a request speaks for where it names none.
 pub(crate) const CARD_ONE: u8 = 1;
@@ -10,65 +13,60 @@ pub(crate) const CARD_ONE: u8 = 1;
 // How far above its request the op stands that names a card.
 const HIGHER: u8 = 32;
 
-// No request, and no card: those of an op whose payload lacks the card.
-const NONE: u8 = 0;
-
-// A request, the card that asks, and the place in the payload where the request's own begins.
+// A request, the card that asks, and what of the payload is the request's own.
 #[derive(Clone, Copy)]
-pub(crate) struct Asking {
-    pub(crate) request: u8,
+pub(crate) struct Asking<'a> {
+    pub(crate) request: Request,
     pub(crate) card: u8,
-    pub(crate) from: usize,
+    pub(crate) own: &'a [u8],
 }
 
-pub(crate) fn who_asks(op: u8, payload: &[u8]) -> Asking
-    ensures { Asks op payload.now result }
+// None for an op that is none, and for one whose payload lacks the card.
+pub(crate) fn who_asks<'a>(op: u8, payload: &'a [u8]) -> Option<Asking<'a>>
+    ensures { AsksIfAny op payload.now result }
 {
-    if op < HIGHER {
-        return card_one(op);
+    if let Some(request) = of_any_card(op) {
+        let (card, own) = payload.split_first()?;
+        return Some(Asking {
+            request,
+            card: *card,
+            own,
+        });
     }
-    if !is_of_cards(op - HIGHER) {
-        return card_one(op);
-    }
-    if payload.len() == 0 {
-        return Asking {
-            request: NONE,
-            card: NONE,
-            from: 0,
-        };
-    }
-    Asking {
-        request: op - HIGHER,
-        card: payload[0],
-        from: 1,
-    }
-}
-
-// A request that names no card: the whole payload is its own.
-fn card_one(request: u8) -> Asking
-    ensures { (result.request ≡ request) × ((result.card ≡ 1) × (result.from ≡ 0)) }
-{
-    Asking {
+    let request = Request::from_number(op)?;
+    Some(Asking {
         request,
         card: CARD_ONE,
-        from: 0,
+        own: payload,
+    })
+}
+
+// The request of an op that names a card.
+fn of_any_card(op: u8) -> Option<Request>
+    ensures { NamesCard op result }
+{
+    let request = Request::from_number(op.checked_sub(HIGHER)?)?;
+    if is_of_cards(request) {
+        Some(request)
+    } else {
+        None
     }
 }
 
 // Whether a card makes this request.
-fn is_of_cards(request: u8) -> bool
-    ensures { result ≡ is_one_of of_cards request }
+fn is_of_cards(request: Request) -> bool
+    ensures { result ≡ is_one_of of_cards (number_of request) }
 {
     match request {
-        6 => true,
-        7 => true,
-        8 => true,
-        9 => true,
-        10 => true,
-        11 => true,
-        13 => true,
-        14 => true,
-        23 => true,
+        Request::Offer
+        | Request::Reset
+        | Request::Immediate
+        | Request::Entry
+        | Request::Tallies
+        | Request::Health
+        | Request::Block
+        | Request::Summary
+        | Request::EntryWords => true,
         _ => false,
     }
 }

@@ -1,5 +1,6 @@
 // A line of output, written into a lent text from the place `at` on. Each function answers the place
 // past what it wrote. What does not fit is left out, which no answer reaches.
+// It is written by hand and not by `write!` into a `String`, since all memory is fixed: there is no heap.
 ghost use Rattle.std.specs.Prelude.{◌+◌, ◌≤◌, length};
 
 // Its length is part of its type, so that a bound on a number keeps a place within it.
@@ -12,15 +13,9 @@ pub(crate) fn put_text(text: &mut Text, at: usize, s: &[u8]) -> usize
     if s.len() > 512 - at {
         return at;
     }
-    copy_to(text, at, s);
-    at + s.len()
-}
-
-// The text is a slice here, because a part of an array behind a reference cannot be lent.
-fn copy_to(text: &mut [u8], at: usize, s: &[u8])
-    requires { at + length s.now ≤ length text.old }
-{
-    text[at..at + s.len()].copy_from_slice(s);
+    let end = at + s.len();
+    text[at..end].copy_from_slice(s);
+    end
 }
 
 // A number in decimal.
@@ -55,15 +50,15 @@ pub(crate) fn put_signed(text: &mut Text, at: usize, z: i32) -> usize
     }
 }
 
-// The first of the values, each behind a space.
-pub(crate) fn put_values(text: &mut Text, at: usize, v: [i32; 8], count: usize) -> usize
-    requires { (at ≤ 512) × (count ≤ 8) }
+// Each value behind a space.
+pub(crate) fn put_values(text: &mut Text, at: usize, values: &[i32]) -> usize
+    requires { at ≤ 512 }
     ensures { result ≤ 512 }
 {
     let mut to = at;
-    for j in 0..count {
+    for value in values {
         let space = put_text(text, to, b" ");
-        to = put_signed(text, space, v[j]);
+        to = put_signed(text, space, *value);
     }
     to
 }
@@ -74,8 +69,8 @@ pub(crate) fn put_hex(text: &mut Text, at: usize, s: &[u8]) -> usize
     ensures { result ≤ 512 }
 {
     let mut to = at;
-    for i in 0..s.len() {
-        to = put_pair(text, to, s[i]);
+    for byte in s {
+        to = put_pair(text, to, *byte);
     }
     to
 }

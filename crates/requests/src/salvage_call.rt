@@ -1,31 +1,24 @@
-// Request 17: a torn file, salvaged with an output of so many bytes and a list of so many stretches.
-ghost use Rattle.std.specs.Prelude.{◌≤◌};
+// A torn file, salvaged with an output of so many bytes and a list of so many stretches.
+ghost use Rattle.std.specs.Prelude.{◌≤◌, IfOk};
 
-use crate::answers::{NO_LINE, say_ok};
+use crate::answers::{Unanswered, say_ok};
 use crate::line::{Text, put_hex, put_next, put_number, put_text};
-use salvage::{Ended, end_number, salvage};
-use strings::wide;
+use salvage::{Full, end_number, salvage};
 
 // The room of the output, that of the list, and the file, of which a line holds what can be told.
-pub(crate) fn salvage_call(payload: &[u8], text: &mut Text) -> usize
-    ensures { result ≤ 512 }
+pub(crate) fn salvage_call(payload: &[u8], text: &mut Text) -> Result<usize, Unanswered>
+    ensures { IfOk result (λ n. n ≤ 512) }
 {
-    if payload.len() < 2 {
-        return NO_LINE;
+    let [room, stretches, file @ ..] = payload else {
+        return Err(Unanswered::Bad);
+    };
+    if file.len() > 96 {
+        return Err(Unanswered::Bad);
     }
-    if payload.len() > 98 {
-        return NO_LINE;
-    }
-    let room = wide(payload[0]) as usize;
-    let numbers = wide(payload[1]) as usize * 2;
     let mut out = [0u8; 255];
     let mut list = [0usize; 510];
-    say_salvaged(
-        text,
-        &payload[2..],
-        &mut out[0..room],
-        &mut list[0..numbers],
-    )
+    let told = *stretches as usize * 2;
+    Ok(say_salvaged(text, file, &mut out[..*room as usize], &mut list[..told]))
 }
 
 // What is told of a salvage: its end, the bytes written and the stretches skipped.
@@ -42,13 +35,13 @@ fn say_salvaged(text: &mut Text, file: &[u8], out: &mut [u8], list: &mut [usize]
 }
 
 // `ok`, or `no N BYTE`.
-fn say_ended(text: &mut Text, ended: Ended) -> usize
+fn say_ended(text: &mut Text, ended: Result<(), Full>) -> usize
     ensures { result ≤ 512 }
 {
     match ended {
-        Ended::Whole => say_ok(text),
-        Ended::OutputFull(at) => say_stopped(text, end_number(ended), at),
-        Ended::ListFull(at) => say_stopped(text, end_number(ended), at),
+        Ok(()) => say_ok(text),
+        Err(Full::Output(at)) => say_stopped(text, end_number(ended), at),
+        Err(Full::List(at)) => say_stopped(text, end_number(ended), at),
     }
 }
 
@@ -65,7 +58,7 @@ fn put_bytes(text: &mut Text, at: usize, s: &[u8]) -> usize
     requires { at ≤ 512 }
     ensures { result ≤ 512 }
 {
-    if s.len() == 0 {
+    if s.is_empty() {
         return put_text(text, at, b" -");
     }
     let space = put_text(text, at, b" ");
@@ -78,10 +71,10 @@ fn put_stretches(text: &mut Text, at: usize, list: &[usize]) -> usize
     ensures { result ≤ 512 }
 {
     let mut to = at;
-    for j in 0..list.len() / 2 {
-        let first = put_next(text, to, list[2 * j] as u64);
+    for stretch in list.chunks_exact(2) {
+        let first = put_next(text, to, stretch[0] as u64);
         let plus = put_text(text, first, b"+");
-        to = put_number(text, plus, list[2 * j + 1] as u64);
+        to = put_number(text, plus, stretch[1] as u64);
     }
     to
 }

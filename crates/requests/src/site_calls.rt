@@ -1,50 +1,44 @@
-// Requests 21 and 22: a second station is set aside, that of another site.
-use crate::answers::{say_bad, say_ok};
+// A second station is set aside, that of another site. No payload.
+ghost use Rattle.std.specs.Prelude.{◌≤◌, IfOk};
+
+use crate::Stations;
+use crate::answers::{Unanswered, say_ok};
+use crate::cards::CARD_ONE;
+use crate::line::Text;
+use crate::payloads::bytes;
 use crate::station_queries::summary_call;
-use crate::{Turned, print};
 use sites::join_site;
-use station::Station;
 use wire::{book_bytes, book_from};
 
-// Request 21, no payload: the two stations change places.
-pub(crate) fn exchange_call<R: Print>(
-    rt: &R,
-    payload: &[u8],
-    st: Station,
-    aside: Station,
-) -> Turned {
-    let mut text = [0u8; 512];
-    if payload.len() != 0 {
-        let n = say_bad(&mut text, 21);
-        print(rt, &mut text, n);
-        return Turned {
-            station: st,
-            aside,
-            more: true,
-        };
-    }
-    let n = say_ok(&mut text);
-    print(rt, &mut text, n);
-    Turned {
-        station: aside,
-        aside: st,
-        more: true,
-    }
+// The two stations change places.
+pub(crate) fn exchange_call(
+    own: &[u8],
+    stations: &mut Stations,
+    text: &mut Text,
+) -> Result<usize, Unanswered>
+    ensures { IfOk result (λ n. n ≤ 512) }
+{
+    bytes::<0>(own)?;
+    *stations = Stations {
+        in_use: stations.aside,
+        aside: stations.in_use,
+    };
+    Ok(say_ok(text))
 }
 
-// Request 22, no payload: the book of the one set aside, as the bytes that a site sends, is joined into
-// the one in use, which is then asked for its summary.
-pub(crate) fn join_call<R: Print>(rt: &R, payload: &[u8], st: Station, aside: Station) -> Station {
-    let mut text = [0u8; 512];
-    if payload.len() != 0 {
-        let n = say_bad(&mut text, 22);
-        print(rt, &mut text, n);
-        return st;
-    }
-    let theirs = aside.book;
+// The book of the one set aside, as the bytes that a site sends, is joined into the one in use, which is
+// then asked for its summary.
+pub(crate) fn join_call(
+    own: &[u8],
+    stations: &mut Stations,
+    text: &mut Text,
+) -> Result<usize, Unanswered>
+    ensures { IfOk result (λ n. n ≤ 512) }
+{
+    bytes::<0>(own)?;
+    let theirs = stations.aside.book;
     let sent = book_bytes(theirs);
-    let joined = join_site(st, book_from(sent));
-    let n = summary_call(1, payload, joined, &mut text);
-    print(rt, &mut text, n);
-    joined
+    let joined = join_site(stations.in_use, book_from(sent));
+    stations.in_use = joined;
+    summary_call(CARD_ONE, own, joined, text)
 }

@@ -1,49 +1,55 @@
-// Requests 19 and 20: a string of a sky, and a chip of the ranging code.
-ghost use Rattle.std.specs.Prelude.{◌≡◌, ◌+◌, ◌*◌, ◌<◌, ◌≤◌, length};
+// A string of a sky, and a chip of the ranging code.
+ghost use Rattle.std.specs.Prelude.{◌≡◌, ◌+◌, ◌*◌, ◌<◌, ◌≤◌, length, IfOk};
 
-use crate::answers::{NO_LINE, say_no, say_ok};
+use crate::answers::{Unanswered, say_no, say_ok};
 use crate::line::{Text, put_next, put_pair, put_text};
-use crate::numbers::pair;
+use crate::payloads::{bytes, pair};
 use crate::sky_words::{SKY_BYTES, sky_from};
-use sky::{Made, make_sky};
-use strings::wide;
+use sky::{Unmade, make_sky};
 use superframe::Sky;
 
 // The greatest room that a request can ask for.
 const MOST: usize = 16000;
 
-// Request 19: the room in two bytes, which of the 75 strings, and the words.
-pub(crate) fn sky_call(payload: &[u8], text: &mut Text) -> usize
-    ensures { result ≤ 512 }
+// The room in two bytes, which of the 75 strings, counted from 1, and the words.
+pub(crate) fn sky_call(payload: &[u8], text: &mut Text) -> Result<usize, Unanswered>
+    ensures { IfOk result (λ n. n ≤ 512) }
 {
-    if payload.len() != 3 + SKY_BYTES {
-        return NO_LINE;
+    let [high, low, which, words @ ..] = payload else {
+        return Err(Unanswered::Bad);
+    };
+    if words.len() != SKY_BYTES {
+        return Err(Unanswered::Bad);
     }
-    let room = pair(payload[0], payload[1]);
+    let room = pair(*high, *low);
     if room > MOST {
-        return NO_LINE;
+        return Err(Unanswered::Bad);
     }
-    let which = wide(payload[2]) as usize;
-    if which == 0 {
-        return NO_LINE;
+    let which = *which as usize;
+    if !(1..=75).contains(&which) {
+        return Err(Unanswered::Bad);
     }
-    if which > 75 {
-        return NO_LINE;
-    }
-    let words = sky_from(&payload[3..]);
     let mut out = [0u8; MOST];
-    say_sky(text, words, which - 1, &mut out[0..room])
+    Ok(say_sky(text, sky_from(words), which - 1, &mut out[..room]))
 }
 
 fn say_sky(text: &mut Text, words: Sky, i: usize, out: &mut [u8]) -> usize
     requires { i < 75 }
     ensures { result ≤ 512 }
 {
-    let made = make_sky(words, out);
-    match made {
-        Made::Done => say_symbols(text, out, i),
-        Made::Refused(r) => say_no(text, r),
-        Made::OutOfOrder => put_text(text, 0, b"no 18"),
+    match make_sky(words, out) {
+        Ok(()) => say_symbols(text, out, i),
+        Err(unmade) => say_unmade(text, unmade),
+    }
+}
+
+// `no N`; 18 is that of words that are out of order.
+pub(crate) fn say_unmade(text: &mut Text, unmade: Unmade) -> usize
+    ensures { result ≤ 512 }
+{
+    match unmade {
+        Unmade::Refused(r) => say_no(text, r),
+        Unmade::OutOfOrder => put_text(text, 0, b"no 18"),
     }
 }
 
@@ -64,8 +70,8 @@ fn put_symbols(text: &mut Text, at: usize, line: &[u8]) -> usize
     ensures { result ≤ 512 }
 {
     let mut to = at;
-    for k in 0..25 {
-        to = put_pair(text, to, eight_in(&line[k * 8..k * 8 + 8]));
+    for eight in line.chunks_exact(8) {
+        to = put_pair(text, to, eight_in(eight));
     }
     to
 }
@@ -79,14 +85,12 @@ fn eight_in(s: &[u8]) -> u8
     high * 16 + low
 }
 
-// Request 20: the chip's number in two bytes.
-pub(crate) fn chip_call(payload: &[u8], text: &mut Text) -> usize
-    ensures { result ≤ 512 }
+// The chip's number in two bytes.
+pub(crate) fn chip_call(payload: &[u8], text: &mut Text) -> Result<usize, Unanswered>
+    ensures { IfOk result (λ n. n ≤ 512) }
 {
-    if payload.len() != 2 {
-        return NO_LINE;
-    }
-    let chip = chips::chip(pair(payload[0], payload[1]));
+    let [high, low] = bytes::<2>(payload)?;
+    let chip = chips::chip(pair(high, low));
     let ok = say_ok(text);
-    put_next(text, ok, chip as u64)
+    Ok(put_next(text, ok, chip as u64))
 }

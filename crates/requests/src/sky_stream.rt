@@ -1,8 +1,9 @@
 // The line symbols of the words on standard input, written to standard output.
-use crate::answers::{say_no, say_short};
+use crate::answers::say_short;
 use crate::print;
+use crate::sky_calls::say_unmade;
 use crate::sky_words::{SKY_BYTES, sky_from};
-use sky::{Made, make_sky};
+use sky::{Unmade, make_sky};
 use streams::{read_full, write_all};
 
 const BLOCK: usize = 4096;
@@ -13,18 +14,16 @@ fn read_on<R: Input>(rt: &R) -> usize {
     read_full(rt, &mut block)
 }
 
-// How many bytes are still to come. Nothing says that the input ends, so the blocks are counted down from
-// a number that no run uses up.
+// How many bytes are still to come. Nothing says that the input ends, so the blocks are counted up to a
+// number that no run reaches.
 fn count_rest<R: Input>(rt: &R) -> usize {
     let mut count = 0usize;
-    let mut blocks = u64::MAX;
-    while blocks > 0 {
+    for _ in 0..u64::MAX {
         let got = read_on(rt);
-        count = std::num::wrapping_add_usize(count, got);
+        count = count.wrapping_add(got);
         if got < BLOCK {
             break;
         }
-        blocks -= 1;
     }
     count
 }
@@ -34,7 +33,7 @@ fn count_rest<R: Input>(rt: &R) -> usize {
 pub fn write_sky<R: Input + Print>(rt: &R) {
     let mut words = [0u8; SKY_BYTES];
     let got = read_full(rt, &mut words);
-    let count = std::num::wrapping_add_usize(got, count_rest(rt));
+    let count = got.wrapping_add(count_rest(rt));
     if count != SKY_BYTES {
         let mut text = [0u8; 512];
         let n = say_short(&mut text, count);
@@ -46,18 +45,15 @@ pub fn write_sky<R: Input + Print>(rt: &R) {
     write_made(rt, made, &out);
 }
 
-fn write_made<R: Print>(rt: &R, made: Made, out: &[u8]) {
+fn write_made<R: Print>(rt: &R, made: Result<(), Unmade>, out: &[u8]) {
     match made {
-        Made::Done => {
+        Ok(()) => {
             write_all(rt, out);
         }
-        Made::Refused(r) => {
+        Err(unmade) => {
             let mut text = [0u8; 512];
-            let n = say_no(&mut text, r);
+            let n = say_unmade(&mut text, unmade);
             print(rt, &mut text, n);
-        }
-        Made::OutOfOrder => {
-            write_all(rt, b"no 18\n");
         }
     }
 }

@@ -1,5 +1,5 @@
-// The words of a sky in bytes, four for each, as request 5 has them: those of strings 1 to 4, of string 5, B1, B2 and
-// KP, and then for each entry those of its even half and of its odd half but l.
+// The words of a sky in bytes, four for each, as the encoder's request has them: those of strings 1 to
+// 4, of string 5, B1, B2 and KP, and then for each entry those of its even half and of its odd half but l.
 ghost use Rattle.std.specs.Prelude.{◌≡◌, ◌+◌, ◌≤◌, length};
 
 use crate::words_taken::{
@@ -7,6 +7,7 @@ use crate::words_taken::{
     string14_from, words_in,
 };
 use records::ImmediateWords;
+use std::array;
 use superframe::{AlmanacWords, Sky};
 
 // How many bytes 322 words have.
@@ -42,13 +43,10 @@ fn immediate_from(s: &[u8]) -> ImmediateWords
 fn entries_from(s: &[u8]) -> [AlmanacWords; 24]
     requires { length s.now ≡ 1288 }
 {
-    let first = entry_from(&s[FIRST_ENTRY..FIRST_ENTRY + ENTRY]);
-    let mut entries = [first; 24];
-    for k in 1..24 {
+    array::from_fn(|k| {
         let at = FIRST_ENTRY + k * ENTRY;
-        entries[k] = entry_from(&s[at..at + ENTRY]);
-    }
-    entries
+        entry_from(&s[at..at + ENTRY])
+    })
 }
 
 fn entry_from(s: &[u8]) -> AlmanacWords

@@ -3,29 +3,28 @@ ghost use Rattle.std.specs.Prelude.{◌≤◌};
 
 use crate::answers::{bit_of, say_no, say_ok};
 use crate::line::{Text, put_digits, put_next, put_pair, put_text};
-use crate::words_told::{put_entry_words, put_record};
+use crate::words_told::put_record;
 use book::Entry;
-use channel::{Answer, News};
+use channel::{News, TakenString};
 use records::{ImmediateWords, Record};
 use relative::polarity_number;
-use station::{EntryFound, HealthFound, RecordFound, SummaryFound, TalliesFound, health_number};
-use strings::Written;
+use strings::Refusal;
 use summary::Summary;
-use tallies::{Causes, Tallies};
+use tallies::Tallies;
 
 // `taken M BIT NEWS P`, BIT 0 where the string was clean, P 0 where its symbols came upright and 1 where
 // inverted.
-pub(crate) fn say_offered(text: &mut Text, a: Answer) -> usize
+pub(crate) fn say_offered(text: &mut Text, a: Result<TakenString, Refusal>) -> usize
     ensures { result ≤ 512 }
 {
     match a {
-        Answer::Refused(r) => say_no(text, r),
-        Answer::Taken(m, v, news, polarity) => {
+        Err(r) => say_no(text, r),
+        Ok(said) => {
             let taken = put_text(text, 0, b"taken");
-            let number = put_next(text, taken, m as u64);
-            let bit = put_next(text, number, bit_of(v) as u64);
-            let told = put_next(text, bit, news_number(news) as u64);
-            put_next(text, told, polarity_number(polarity) as u64)
+            let number = put_next(text, taken, said.m as u64);
+            let bit = put_next(text, number, bit_of(said.verdict) as u64);
+            let told = put_next(text, bit, news_number(said.news) as u64);
+            put_next(text, told, polarity_number(said.polarity) as u64)
         }
     }
 }
@@ -40,29 +39,17 @@ fn news_number(news: News) -> u8 {
 }
 
 // `ok`.
-pub(crate) fn say_emptied(text: &mut Text, w: Written) -> usize
+pub(crate) fn say_emptied(text: &mut Text, w: Result<(), Refusal>) -> usize
     ensures { result ≤ 512 }
 {
     match w {
-        Written::Refused(r) => say_no(text, r),
-        Written::Done => say_ok(text),
+        Err(r) => say_no(text, r),
+        Ok(()) => say_ok(text),
     }
 }
 
-// `ok`, the 26 words of strings 1 to 4, and the start of their frame.
-pub(crate) fn say_immediate(text: &mut Text, f: RecordFound) -> usize
-    ensures { result ≤ 512 }
-{
-    match f {
-        RecordFound::Refused(r) => say_no(text, r),
-        RecordFound::Found(w, start) => {
-            let words = put_immediate(text, w);
-            put_next(text, words, start as u64)
-        }
-    }
-}
-
-fn put_immediate(text: &mut Text, w: ImmediateWords) -> usize
+// `ok`, and the 26 words of strings 1 to 4.
+pub(crate) fn put_immediate(text: &mut Text, w: ImmediateWords) -> usize
     ensures { result ≤ 512 }
 {
     let one = w.one;
@@ -77,16 +64,7 @@ fn put_immediate(text: &mut Text, w: ImmediateWords) -> usize
 }
 
 // `ok DAY EVEN ODD`.
-pub(crate) fn say_entry(text: &mut Text, f: EntryFound) -> usize
-    ensures { result ≤ 512 }
-{
-    match f {
-        EntryFound::Refused(r) => say_no(text, r),
-        EntryFound::Found(e) => put_entry(text, e),
-    }
-}
-
-fn put_entry(text: &mut Text, e: Entry) -> usize
+pub(crate) fn put_entry(text: &mut Text, e: Entry) -> usize
     ensures { result ≤ 512 }
 {
     let ok = say_ok(text);
@@ -105,93 +83,44 @@ fn put_half(text: &mut Text, at: usize, top: u8, rest: u64) -> usize
     put_digits(text, high, rest, 16)
 }
 
-// `ok` and the twelve words of the entry.
-pub(crate) fn say_entry_words(text: &mut Text, f: EntryFound) -> usize
+// `ok OFFERED CLEAN REPAIRED REFUSED`, and the refused by cause, in the order of the tests: by 2 to 4, and then by
+// 5 to 9.
+pub(crate) fn put_tallies(text: &mut Text, t: Tallies) -> usize
     ensures { result ≤ 512 }
 {
-    match f {
-        EntryFound::Refused(r) => say_no(text, r),
-        EntryFound::Found(e) => {
-            let ok = say_ok(text);
-            put_entry_words(text, ok, e)
-        }
-    }
-}
-
-// `ok OFFERED CLEAN REPAIRED REFUSED N2 N31 N32 N33 N4 N5 N6 N7 N8 N9`.
-pub(crate) fn say_tallies(text: &mut Text, f: TalliesFound) -> usize
-    ensures { result ≤ 512 }
-{
-    match f {
-        TalliesFound::Refused(r) => say_no(text, r),
-        TalliesFound::Found(t) => put_tallies(text, t),
-    }
-}
-
-fn put_tallies(text: &mut Text, t: Tallies) -> usize
-    ensures { result ≤ 512 }
-{
+    let c = t.causes;
     let ok = say_ok(text);
-    let offered = put_next(text, ok, t.offered as u64);
-    let clean = put_next(text, offered, t.clean as u64);
-    let repaired = put_next(text, clean, t.repaired as u64);
-    let refused = put_next(text, repaired, t.refused as u64);
-    let causes = t.causes;
-    put_causes(text, refused, causes)
+    let whole = put_counts(text, ok, &[t.offered, t.clean, t.repaired, t.refused]);
+    let till_4 = put_counts(
+        text,
+        whole,
+        &[c.shape, c.unplaced, c.even, c.outside, c.idle],
+    );
+    put_counts(
+        text,
+        till_4,
+        &[c.number, c.early, c.stale, c.offbeat, c.conflict],
+    )
 }
 
-// The refused by cause, in the order of the tests: by 2 to 4, and then by 5 to 9.
-fn put_causes(text: &mut Text, at: usize, c: Causes) -> usize
+// Each count behind a space.
+fn put_counts(text: &mut Text, at: usize, counts: &[u32]) -> usize
     requires { at ≤ 512 }
     ensures { result ≤ 512 }
 {
-    let shape = put_next(text, at, c.shape as u64);
-    let unplaced = put_next(text, shape, c.unplaced as u64);
-    let even = put_next(text, unplaced, c.even as u64);
-    let outside = put_next(text, even, c.outside as u64);
-    let idle = put_next(text, outside, c.idle as u64);
-    put_later_causes(text, idle, c)
-}
-
-fn put_later_causes(text: &mut Text, at: usize, c: Causes) -> usize
-    requires { at ≤ 512 }
-    ensures { result ≤ 512 }
-{
-    let number = put_next(text, at, c.number as u64);
-    let early = put_next(text, number, c.early as u64);
-    let stale = put_next(text, early, c.stale as u64);
-    let offbeat = put_next(text, stale, c.offbeat as u64);
-    put_next(text, offbeat, c.conflict as u64)
+    let mut to = at;
+    for count in counts {
+        to = put_next(text, to, *count as u64);
+    }
+    to
 }
 
 // `ok COUNT OLDEST NEWEST`.
-pub(crate) fn say_summary(text: &mut Text, f: SummaryFound) -> usize
-    ensures { result ≤ 512 }
-{
-    match f {
-        SummaryFound::Refused(r) => say_no(text, r),
-        SummaryFound::Found(s) => put_summary(text, s),
-    }
-}
-
-fn put_summary(text: &mut Text, s: Summary) -> usize
+pub(crate) fn put_summary(text: &mut Text, s: Summary) -> usize
     ensures { result ≤ 512 }
 {
     let ok = say_ok(text);
     let count = put_next(text, ok, s.count);
     let oldest = put_next(text, count, s.oldest as u64);
     put_next(text, oldest, s.newest as u64)
-}
-
-// `ok HEALTH`.
-pub(crate) fn say_health(text: &mut Text, f: HealthFound) -> usize
-    ensures { result ≤ 512 }
-{
-    match f {
-        HealthFound::Refused(r) => say_no(text, r),
-        HealthFound::Found(h) => {
-            let ok = say_ok(text);
-            put_next(text, ok, health_number(h) as u64)
-        }
-    }
 }

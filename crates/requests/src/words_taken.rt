@@ -1,54 +1,14 @@
-// Request 5, once its kind is known: the record of its words, in the paper's order. The fields are named
-// here, and not made from a list by another crate, so that the string written shows which word each of
-// them holds.
-ghost use Rattle.std.specs.Prelude.{◌≤◌, length};
-
-use crate::answers::{NO_LINE, say_written};
-use crate::line::Text;
-use crate::numbers::four;
-use crate::words_told::count_of;
+// The record of the words that a request brings, in the paper's order. The fields are named here, and
+// not made from a list by another crate, so that the string written shows which word each of them holds.
 use records::{
     EvenString, Kind, OddString, Record, String1, String2, String3, String4, String5, String14,
 };
-use strings::wide;
 
 // The words of a request, as many as the longest kind has.
-#[derive(Clone, Copy)]
-pub(crate) struct Words {
-    first: i32,
-    second: i32,
-    third: i32,
-    fourth: i32,
-    fifth: i32,
-    sixth: i32,
-    seventh: i32,
-    eighth: i32,
-}
-
-// The kind has to have all its words, and no more.
-pub(crate) fn write_kind(k: Kind, payload: &[u8], text: &mut Text) -> usize
-    requires { 3 ≤ length payload.now }
-    ensures { result ≤ 512 }
-{
-    if payload.len() - 3 != count_of(k) * 4 {
-        return NO_LINE;
-    }
-    let record = record_from(k, words_in(&payload[3..]));
-    let mut space = [0u8; 255];
-    let room = wide(payload[0]) as usize;
-    write_into(payload[2], record, &mut space[0..room], text)
-}
-
-// The output is lent to the call and read for the line after it.
-fn write_into(m: u8, record: Record, out: &mut [u8], text: &mut Text) -> usize
-    ensures { result ≤ 512 }
-{
-    let w = words::write_words(m, record, out);
-    say_written(text, w, out)
-}
+pub(crate) type Words = [i32; 8];
 
 // The record of a kind, from as many of the words as it has.
-fn record_from(k: Kind, w: Words) -> Record {
+pub(crate) fn record_from(k: Kind, w: Words) -> Record {
     match k {
         Kind::One => Record::One(string1_from(w)),
         Kind::Two => Record::Two(string2_from(w)),
@@ -62,113 +22,101 @@ fn record_from(k: Kind, w: Words) -> Record {
 }
 
 pub(crate) fn string1_from(w: Words) -> String1 {
+    let [p1, tk, xvel, xacc, x, ..] = w;
     String1 {
-        p1: w.first,
-        tk: w.second,
-        xvel: w.third,
-        xacc: w.fourth,
-        x: w.fifth,
+        p1,
+        tk,
+        xvel,
+        xacc,
+        x,
     }
 }
 
 pub(crate) fn string2_from(w: Words) -> String2 {
+    let [b, p2, tb, yvel, yacc, y, ..] = w;
     String2 {
-        b: w.first,
-        p2: w.second,
-        tb: w.third,
-        yvel: w.fourth,
-        yacc: w.fifth,
-        y: w.sixth,
+        b,
+        p2,
+        tb,
+        yvel,
+        yacc,
+        y,
     }
 }
 
 pub(crate) fn string3_from(w: Words) -> String3 {
+    let [p3, gamma, p, l, zvel, zacc, z, ..] = w;
     String3 {
-        p3: w.first,
-        gamma: w.second,
-        p: w.third,
-        l: w.fourth,
-        zvel: w.fifth,
-        zacc: w.sixth,
-        z: w.seventh,
+        p3,
+        gamma,
+        p,
+        l,
+        zvel,
+        zacc,
+        z,
     }
 }
 
 pub(crate) fn string4_from(w: Words) -> String4 {
+    let [tau, dtau, e, p4, ft, nt, n, m] = w;
     String4 {
-        tau: w.first,
-        dtau: w.second,
-        e: w.third,
-        p4: w.fourth,
-        ft: w.fifth,
-        nt: w.sixth,
-        n: w.seventh,
-        m: w.eighth,
+        tau,
+        dtau,
+        e,
+        p4,
+        ft,
+        nt,
+        n,
+        m,
     }
 }
 
 pub(crate) fn string5_from(w: Words) -> String5 {
+    let [na, tauc, n4, taugps, l, ..] = w;
     String5 {
-        na: w.first,
-        tauc: w.second,
-        n4: w.third,
-        taugps: w.fourth,
-        l: w.fifth,
+        na,
+        tauc,
+        n4,
+        taugps,
+        l,
     }
 }
 
 pub(crate) fn even_from(w: Words) -> EvenString {
+    let [c, ma, na, taua, lambda, di, epsilon, ..] = w;
     EvenString {
-        c: w.first,
-        ma: w.second,
-        na: w.third,
-        taua: w.fourth,
-        lambda: w.fifth,
-        di: w.sixth,
-        epsilon: w.seventh,
+        c,
+        ma,
+        na,
+        taua,
+        lambda,
+        di,
+        epsilon,
     }
 }
 
 pub(crate) fn odd_from(w: Words) -> OddString {
+    let [omega, tlambda, dt, dtrate, h, l, ..] = w;
     OddString {
-        omega: w.first,
-        tlambda: w.second,
-        dt: w.third,
-        dtrate: w.fourth,
-        h: w.fifth,
-        l: w.sixth,
+        omega,
+        tlambda,
+        dt,
+        dtrate,
+        h,
+        l,
     }
 }
 
 pub(crate) fn string14_from(w: Words) -> String14 {
-    String14 {
-        b1: w.first,
-        b2: w.second,
-        kp: w.third,
-    }
+    let [b1, b2, kp, ..] = w;
+    String14 { b1, b2, kp }
 }
 
-// Those past the end of the bytes are 0.
+// A word has four bytes, in two's complement. Those past the end of the bytes are 0.
 pub(crate) fn words_in(s: &[u8]) -> Words {
-    Words {
-        first: word(s, 0),
-        second: word(s, 1),
-        third: word(s, 2),
-        fourth: word(s, 3),
-        fifth: word(s, 4),
-        sixth: word(s, 5),
-        seventh: word(s, 6),
-        eighth: word(s, 7),
+    let mut words = [0; 8];
+    for (word, bytes) in words.iter_mut().zip(s.chunks_exact(4)) {
+        *word = i32::from_be_bytes([bytes[0], bytes[1], bytes[2], bytes[3]]);
     }
-}
-
-// The word at a place, among words of four bytes each. Two's complement: from 2^31 on, the complement
-// of what the number falls short of all ones by.
-fn word(s: &[u8], place: u8) -> i32 {
-    let n = four(s, wide(place) as usize * 4);
-    if n < 2147483648 {
-        n as i32
-    } else {
-        !((4294967295 - n) as i32)
-    }
+    words
 }

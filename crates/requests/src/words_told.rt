@@ -4,9 +4,7 @@ ghost use Rattle.std.specs.Prelude.{◌≤◌};
 
 use crate::line::{Text, put_values};
 use book::Entry;
-use records::{
-    EvenString, Kind, OddString, Record, String1, String2, String3, String4, String5, String14,
-};
+use records::{Kind, Record};
 
 // How many words a kind has.
 pub(crate) fn count_of(k: Kind) -> usize
@@ -29,8 +27,20 @@ pub(crate) fn put_record(text: &mut Text, at: usize, record: Record) -> usize
     requires { at ≤ 512 }
     ensures { result ≤ 512 }
 {
-    let count = count_of(records::kind_of(record));
-    put_values(text, at, list_of(record), count)
+    match record {
+        Record::One(r) => put_values(text, at, &[r.p1, r.tk, r.xvel, r.xacc, r.x]),
+        Record::Two(r) => put_values(text, at, &[r.b, r.p2, r.tb, r.yvel, r.yacc, r.y]),
+        Record::Three(r) => put_values(text, at, &[r.p3, r.gamma, r.p, r.l, r.zvel, r.zacc, r.z]),
+        Record::Four(r) => put_values(text, at, &[r.tau, r.dtau, r.e, r.p4, r.ft, r.nt, r.n, r.m]),
+        Record::Five(r) => put_values(text, at, &[r.na, r.tauc, r.n4, r.taugps, r.l]),
+        Record::Even(r) => put_values(
+            text,
+            at,
+            &[r.c, r.ma, r.na, r.taua, r.lambda, r.di, r.epsilon],
+        ),
+        Record::Odd(r) => put_values(text, at, &[r.omega, r.tlambda, r.dt, r.dtrate, r.h, r.l]),
+        Record::Fourteen(r) => put_values(text, at, &[r.b1, r.b2, r.kp]),
+    }
 }
 
 // An entry's words: those of its even half, and those of its odd half but for the sender's l, which is
@@ -39,52 +49,11 @@ pub(crate) fn put_entry_words(text: &mut Text, at: usize, e: Entry) -> usize
     requires { at ≤ 512 }
     ensures { result ≤ 512 }
 {
-    let even = put_values(text, at, even_list(book::even_words(e)), 7);
-    put_values(text, even, odd_list(book::odd_words(e)), 5)
-}
-
-// The words, and zeros after them.
-fn list_of(record: Record) -> [i32; 8] {
-    match record {
-        Record::One(r) => string1_list(r),
-        Record::Two(r) => string2_list(r),
-        Record::Three(r) => string3_list(r),
-        Record::Four(r) => string4_list(r),
-        Record::Five(r) => string5_list(r),
-        Record::Even(r) => even_list(r),
-        Record::Odd(r) => odd_list(r),
-        Record::Fourteen(r) => string14_list(r),
-    }
-}
-
-fn string1_list(r: String1) -> [i32; 8] {
-    [r.p1, r.tk, r.xvel, r.xacc, r.x, 0, 0, 0]
-}
-
-fn string2_list(r: String2) -> [i32; 8] {
-    [r.b, r.p2, r.tb, r.yvel, r.yacc, r.y, 0, 0]
-}
-
-fn string3_list(r: String3) -> [i32; 8] {
-    [r.p3, r.gamma, r.p, r.l, r.zvel, r.zacc, r.z, 0]
-}
-
-fn string4_list(r: String4) -> [i32; 8] {
-    [r.tau, r.dtau, r.e, r.p4, r.ft, r.nt, r.n, r.m]
-}
-
-fn string5_list(r: String5) -> [i32; 8] {
-    [r.na, r.tauc, r.n4, r.taugps, r.l, 0, 0, 0]
-}
-
-fn even_list(r: EvenString) -> [i32; 8] {
-    [r.c, r.ma, r.na, r.taua, r.lambda, r.di, r.epsilon, 0]
-}
-
-fn odd_list(r: OddString) -> [i32; 8] {
-    [r.omega, r.tlambda, r.dt, r.dtrate, r.h, r.l, 0, 0]
-}
-
-fn string14_list(r: String14) -> [i32; 8] {
-    [r.b1, r.b2, r.kp, 0, 0, 0, 0, 0]
+    let even = put_record(text, at, Record::Even(book::even_words(e)));
+    let odd = book::odd_words(e);
+    put_values(
+        text,
+        even,
+        &[odd.omega, odd.tlambda, odd.dt, odd.dtrate, odd.h],
+    )
 }

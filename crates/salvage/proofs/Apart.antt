@@ -9,8 +9,9 @@ use mathlib.Core.List.{List, [], ◌∷◌, ◌++◌}
 use mathlib.Core.Logic.{⊎_elim}
 use lib.ListN.{length}
 use Rattle.fields.specs.Fields.{size_at}
+use Rattle.std.specs.Prelude.{Err}
 use Rattle.fields.proofs.Near.{size_in_lem, size_three}
-use Rattle.salvage.specs.declared.Ended.TheVariants.{OutputFull, ListFull}
+use Rattle.salvage.specs.declared.Full.TheVariants.{Output as OutputFull, List as ListFull}
 use Rattle.salvage.specs.declared.Salvaged.{Salvaged}
 use Rattle.salvage.specs.Items.{Item, Kept, Skipped, resumes, next_place, items_of}
 use Rattle.salvage.specs.Rules.{First}
@@ -121,7 +122,7 @@ module _ (file out list : List ℕ) (r : Salvaged) (out' list' : List ℕ) (h : 
       let e : stretches (items_of file) ≡ stretches w ++ stretches f.after = ap stretches f.split ∙ stretches_append w f.after in
       rw (written_list file out list r out' list' h) (apart_front (stretches w) (stretches f.after) (rw e at (items_apart file)))
 
-  pub never_44 : length file ≤ length out → (at : ℕ) → r.ended ≡ OutputFull at → ⊥
+  pub never_44 : length file ≤ length out → (at : ℕ) → r.ended ≡ Err (OutputFull at) → ⊥
   never_44 l at e =
       let x : StopsAt (items_of file) (length out) (slots_of list) (Kept at) = ((end file out list r out' list' h).output at).0 e in
       let c = items_once 0 (length file) (items_of file) (rules file).follow in
@@ -133,7 +134,7 @@ module _ (file out list : List ℕ) (r : Salvaged) (out' list' : List ℕ) (h : 
       skips-kept (Kept p m ∷ a) at n = skips-kept a at n
       skips-kept (Skipped p m ∷ a) at n = omega (arith, skips-kept a at n)
 
-  pub never_45 : (length file + 6) / 7 ≤ slots_of list → (at : ℕ) → r.ended ≡ ListFull at → ⊥
+  pub never_45 : (length file + 6) / 7 ≤ slots_of list → (at : ℕ) → r.ended ≡ Err (ListFull at) → ⊥
   never_45 l at e =
       let x : StopsAt (items_of file) (length out) (slots_of list) (Skipped at) = ((end file out list r out' list' h).list at).0 e in
       let k = skips_before x.before (Skipped at x.count) x.after in

@@ -12,8 +12,9 @@ use lib.ListN.{length, drop, length-append}
 use lib.Seq.{take-append_seam}
 use borrow.Author.Tests.{leb-true, leb-false, le-leb}
 use Rattle.strings.specs.Pick.{pick}
-use Rattle.salvage.specs.declared.Ended.{Ended}
-use Rattle.salvage.specs.declared.Ended.TheVariants.{Whole, OutputFull, ListFull}
+use Rattle.salvage.specs.declared.Full.{Full}
+use Rattle.std.specs.Prelude.{Result, Ok, Err, ⊤}
+use Rattle.salvage.specs.declared.Full.TheVariants.{Output as OutputFull, List as ListFull}
 use Rattle.salvage.specs.declared.Salvaged.{Salvaged}
 use Rattle.salvage.specs.Items.{Item, Kept, Skipped, items_of}
 use Rattle.salvage.specs.Rules.{Follow}
@@ -22,45 +23,45 @@ use Rattle.salvage.specs.Laws.{bytes_in, list_in, stop_of, kept_count, Fit, Stop
 use Rattle.salvage.proofs.Rules.{follow_le, rules}
 
 -- ---- the three ends are three
-by_number : (a b : Ended) → (end_number a ≡ end_number b → ⊥) → a ≡ b → ⊥
+by_number : (a b : Result ⊤ Full) → (end_number a ≡ end_number b → ⊥) → a ≡ b → ⊥
 by_number a b n e = n (ap end_number e)
 
-whole_output : (at : ℕ) → Whole ≡ OutputFull at → ⊥
-whole_output at = by_number Whole (OutputFull at) (λ e. omega (arith, e))
+whole_output : (at : ℕ) → ◌≡◌ {A = Result ⊤ Full} (Ok tt) (Err (OutputFull at)) → ⊥
+whole_output at = by_number (Ok tt) (Err (OutputFull at)) (λ e. omega (arith, e))
 
-whole_list : (at : ℕ) → Whole ≡ ListFull at → ⊥
-whole_list at = by_number Whole (ListFull at) (λ e. omega (arith, e))
+whole_list : (at : ℕ) → ◌≡◌ {A = Result ⊤ Full} (Ok tt) (Err (ListFull at)) → ⊥
+whole_list at = by_number (Ok tt) (Err (ListFull at)) (λ e. omega (arith, e))
 
-output_list : (a b : ℕ) → OutputFull a ≡ ListFull b → ⊥
-output_list a b = by_number (OutputFull a) (ListFull b) (λ e. omega (arith, e))
+output_list : (a b : ℕ) → ◌≡◌ {A = Result ⊤ Full} (Err (OutputFull a)) (Err (ListFull b)) → ⊥
+output_list a b = by_number (Err (OutputFull a)) (Err (ListFull b)) (λ e. omega (arith, e))
 
 -- the end that is told of an item for which there is no room
-abbrev pub end_by : Item → Ended
-end_by (Kept at n) = OutputFull at
-end_by (Skipped at n) = ListFull at
+abbrev pub end_by : Item → Result ⊤ Full
+end_by (Kept at n) = Err (OutputFull at)
+end_by (Skipped at n) = Err (ListFull at)
 
-end_by_not : (i : Item) → end_by i ≡ Whole → ⊥
+end_by_not : (i : Item) → end_by i ≡ Ok tt → ⊥
 end_by_not (Kept at n) e = whole_output at (sym e)
 end_by_not (Skipped at n) e = whole_list at (sym e)
 
 -- ---- all items fit, or there is a first with which they do not
-pub record Stopped (room slots : ℕ) (items written : List Item) (ended : Ended) : Type 0 where
+pub record Stopped (room slots : ℕ) (items written : List Item) (ended : Result ⊤ Full) : Type 0 where
   pub next : Item
   pub after : List Item
   pub split : items ≡ written ++ (next ∷ after)
   pub full : Fit room slots (written ++ (next ∷ [])) → ⊥
   pub told : ended ≡ end_by next
 
-pub record Ending (room slots : ℕ) (items written : List Item) (ended : Ended) : Type 0 where
+pub record Ending (room slots : ℕ) (items written : List Item) (ended : Result ⊤ Full) : Type 0 where
   pub fit : Fit room slots written
-  pub either : ((written ≡ items) × (ended ≡ Whole)) ⊎ Stopped room slots items written ended
+  pub either : ((written ≡ items) × (ended ≡ Ok tt)) ⊎ Stopped room slots items written ended
 
 -- one item more in front, of which there is room
-module _ (room slots room' slots' : ℕ) (i : Item) (is w : List Item) (e : Ended) (h : (x : List Item) → Fit room' slots' x ↔ Fit room slots (i ∷ x)) where
+module _ (room slots room' slots' : ℕ) (i : Item) (is w : List Item) (e : Result ⊤ Full) (h : (x : List Item) → Fit room' slots' x ↔ Fit room slots (i ∷ x)) where
   fits_more : Ending room' slots' is w e → Ending room slots (i ∷ is) (i ∷ w) e
-  fits_more g = record { fit = (h w).0 g.fit; either = ⊎_elim (λ (x : (w ≡ is) × (e ≡ Whole)). inl (ap (λ (l : List Item). i ∷ l) x.0, x.1)) more g.either }
+  fits_more g = record { fit = (h w).0 g.fit; either = ⊎_elim (λ (x : (w ≡ is) × (e ≡ Ok tt)). inl (ap (λ (l : List Item). i ∷ l) x.0, x.1)) more g.either }
     where
-      more : Stopped room' slots' is w e → ((i ∷ w ≡ i ∷ is) × (e ≡ Whole)) ⊎ Stopped room slots (i ∷ is) (i ∷ w) e
+      more : Stopped room' slots' is w e → ((i ∷ w ≡ i ∷ is) × (e ≡ Ok tt)) ⊎ Stopped room slots (i ∷ is) (i ∷ w) e
       more x =
           inr (record {
             next = x.next;
@@ -73,7 +74,7 @@ module _ (room slots room' slots' : ℕ) (i : Item) (is w : List Item) (e : Ende
 none_fits_lem : (room slots : ℕ) (i : Item) (is : List Item) → (Fit room slots (i ∷ []) → ⊥) → Ending room slots (i ∷ is) [] (end_by i)
 none_fits_lem room slots i is n = record { fit = (zero-le, zero-le); either = inr (record { next = i; after = is; split = refl; full = n; told = refl }) }
 
-ending_pick : (t : Bool) (room slots : ℕ) (items w : List Item) (e : Ended) (i : Item) → (t ≡ true → Ending room slots items w e)
+ending_pick : (t : Bool) (room slots : ℕ) (items w : List Item) (e : Result ⊤ Full) (i : Item) → (t ≡ true → Ending room slots items w e)
     → (t ≡ false → Ending room slots items [] (end_by i)) → Ending room slots items (pick t w []) (pick t e (end_by i))
 ending_pick true room slots items w e i f g = f refl
 ending_pick false room slots items w e i f g = g refl
@@ -95,9 +96,9 @@ ending room slots (Skipped at n ∷ is) =
     (λ x. ((λ f. (f.0, omega (arith, f.1, l))), (λ f. (f.0, omega (arith, f.1))))) (ending room (slots - 1) is))
     (λ t. none_fits_lem room slots (Skipped at n) is (λ f. omega (arith, f.1, leb-false 1 slots t)))
 
-pub unrefused : (room slots : ℕ) (is : List Item) → end_of room slots is ≡ Whole → fitting room slots is ≡ is
+pub unrefused : (room slots : ℕ) (is : List Item) → end_of room slots is ≡ Ok tt → fitting room slots is ≡ is
 unrefused room slots is h =
-    ⊎_elim (λ (x : (fitting room slots is ≡ is) × (end_of room slots is ≡ Whole)). x.0)
+    ⊎_elim (λ (x : (fitting room slots is ≡ is) × (end_of room slots is ≡ Ok tt)). x.0)
     (λ (x : Stopped room slots is (fitting room slots is) (end_of room slots is)). absurd (end_by_not x.next (sym x.told ∙ h)))
     (ending room slots is).either
 
@@ -108,7 +109,7 @@ pub record Front (items written : List Item) : Type 0 where
 
 pub front_of : (room slots : ℕ) (is : List Item) → Front is (fitting room slots is)
 front_of room slots is =
-    ⊎_elim (λ (x : (fitting room slots is ≡ is) × (end_of room slots is ≡ Whole)). record { after = []; split = sym (append-nil (fitting room slots is) ∙ x.0) })
+    ⊎_elim (λ (x : (fitting room slots is ≡ is) × (end_of room slots is ≡ Ok tt)). record { after = []; split = sym (append-nil (fitting room slots is) ∙ x.0) })
     (λ (x : Stopped room slots is (fitting room slots is) (end_of room slots is)). record { after = x.next ∷ x.after; split = x.split })
     (ending room slots is).either
 
@@ -123,7 +124,7 @@ skips_append [] b = omega arith
 skips_append (Kept at n ∷ a) b = skips_append a b
 skips_append (Skipped at n ∷ a) b = omega (arith, skips_append a b)
 
-pub fit_whole : (room slots : ℕ) (is : List Item) → Fit room slots is → end_of room slots is ≡ Whole
+pub fit_whole : (room slots : ℕ) (is : List Item) → Fit room slots is → end_of room slots is ≡ Ok tt
 fit_whole room slots [] f = refl
 fit_whole room slots (Kept at n ∷ is) f = rw (le-leb n room (omega (arith, f.0))) (fit_whole (room - n) slots is (omega (arith, f.0), f.1))
 fit_whole room slots (Skipped at n ∷ is) f = rw (le-leb 1 slots (omega (arith, f.1))) (fit_whole room (slots - 1) is (f.0, omega (arith, f.1)))
@@ -131,12 +132,12 @@ fit_whole room slots (Skipped at n ∷ is) f = rw (le-leb 1 slots (omega (arith,
 stop_now : (room slots : ℕ) (i : Item) (is : List Item) → (Fit room slots (i ∷ []) → ⊥) → end_of room slots (i ∷ is) ≡ end_by i
 stop_now room slots (Kept at n) is f = by (leb n room) refl
   where
-    by : (t : Bool) → leb n room ≡ t → pick t (end_of (room - n) slots is) (OutputFull at) ≡ OutputFull at
+    by : (t : Bool) → leb n room ≡ t → pick t (end_of (room - n) slots is) (Err (OutputFull at)) ≡ Err (OutputFull at)
     by true e = absurd (f (omega (arith, leb-true n room e), zero-le))
     by false e = refl
 stop_now room slots (Skipped at n) is f = by (leb 1 slots) refl
   where
-    by : (t : Bool) → leb 1 slots ≡ t → pick t (end_of room (slots - 1) is) (ListFull at) ≡ ListFull at
+    by : (t : Bool) → leb 1 slots ≡ t → pick t (end_of room (slots - 1) is) (Err (ListFull at)) ≡ Err (ListFull at)
     by true e = absurd (f (zero-le, leb-true 1 slots e))
     by false e = refl
 
@@ -152,41 +153,41 @@ stop_later room slots (Skipped at m ∷ b) i is f n =
 
 -- ---- each end exactly where its rule says
 module _ (room slots : ℕ) (is : List Item) where
-  abbrev told : Ended
+  abbrev told : Result ⊤ Full
   told = end_of room slots is
 
   abbrev written : List Item
   written = fitting room slots is
 
-  stops_told : (next : ℕ → Item) → StopsAt is room slots next → (e : Ended) → ((n : ℕ) → end_by (next n) ≡ e) → told ≡ e
+  stops_told : (next : ℕ → Item) → StopsAt is room slots next → (e : Result ⊤ Full) → ((n : ℕ) → end_by (next n) ≡ e) → told ≡ e
   stops_told next x e h =
       ap (end_of room slots) x.split ∙ stop_later room slots x.before (next x.count) x.after x.fit x.full ∙ h x.count
 
-  whole_fit : told ≡ Whole → Fit room slots is
+  whole_fit : told ≡ Ok tt → Fit room slots is
   whole_fit h = let e = unrefused room slots is h in rw e at (ending room slots is).fit
 
-  told_stop : (e : Ended) → (e ≡ Whole → ⊥) → told ≡ e → Stopped room slots is written told
+  told_stop : (e : Result ⊤ Full) → (e ≡ Ok tt → ⊥) → told ≡ e → Stopped room slots is written told
   told_stop e n h =
-      ⊎_elim (λ (x : (written ≡ is) × (told ≡ Whole)). absurd (n (sym h ∙ x.1))) (λ (x : Stopped room slots is written told). x)
+      ⊎_elim (λ (x : (written ≡ is) × (told ≡ Ok tt)). absurd (n (sym h ∙ x.1))) (λ (x : Stopped room slots is written told). x)
       (ending room slots is).either
 
-  output_stops : (at : ℕ) → told ≡ OutputFull at → StopsAt is room slots (Kept at)
-  output_stops at h = let x = told_stop (OutputFull at) (λ e. whole_output at (sym e)) h in by x.next x.after x.split x.full (sym x.told ∙ h)
+  output_stops : (at : ℕ) → told ≡ Err (OutputFull at) → StopsAt is room slots (Kept at)
+  output_stops at h = let x = told_stop (Err (OutputFull at)) (λ e. whole_output at (sym e)) h in by x.next x.after x.split x.full (sym x.told ∙ h)
     where
-      by : (i : Item) (after : List Item) → is ≡ written ++ (i ∷ after) → (Fit room slots (written ++ (i ∷ [])) → ⊥) → end_by i ≡ OutputFull at
+      by : (i : Item) (after : List Item) → is ≡ written ++ (i ∷ after) → (Fit room slots (written ++ (i ∷ [])) → ⊥) → end_by i ≡ Err (OutputFull at)
           → StopsAt is room slots (Kept at)
       by (Kept a n) after s f e =
-          let p : a ≡ at = ap (λ (x : Ended). stop_of x 0) e in
+          let p : a ≡ at = ap (λ (x : Result ⊤ Full). stop_of x 0) e in
           rw (← p) (record { before = written; after = after; count = n; split = s; fit = (ending room slots is).fit; full = f })
       by (Skipped a n) after s f e = absurd (output_list at a (sym e))
 
-  list_stops : (at : ℕ) → told ≡ ListFull at → StopsAt is room slots (Skipped at)
-  list_stops at h = let x = told_stop (ListFull at) (λ e. whole_list at (sym e)) h in by x.next x.after x.split x.full (sym x.told ∙ h)
+  list_stops : (at : ℕ) → told ≡ Err (ListFull at) → StopsAt is room slots (Skipped at)
+  list_stops at h = let x = told_stop (Err (ListFull at)) (λ e. whole_list at (sym e)) h in by x.next x.after x.split x.full (sym x.told ∙ h)
     where
-      by : (i : Item) (after : List Item) → is ≡ written ++ (i ∷ after) → (Fit room slots (written ++ (i ∷ [])) → ⊥) → end_by i ≡ ListFull at
+      by : (i : Item) (after : List Item) → is ≡ written ++ (i ∷ after) → (Fit room slots (written ++ (i ∷ [])) → ⊥) → end_by i ≡ Err (ListFull at)
           → StopsAt is room slots (Skipped at)
       by (Skipped a n) after s f e =
-          let p : a ≡ at = ap (λ (x : Ended). stop_of x 0) e in
+          let p : a ≡ at = ap (λ (x : Result ⊤ Full). stop_of x 0) e in
           rw (← p) (record { before = written; after = after; count = n; split = s; fit = (ending room slots is).fit; full = f })
       by (Kept a n) after s f e = absurd (output_list a at e)
 
@@ -194,8 +195,8 @@ module _ (room slots : ℕ) (is : List Item) where
   ends_exactly =
       record {
         whole = (whole_fit, fit_whole room slots is);
-        output = λ at. (output_stops at, (λ x. stops_told (Kept at) x (OutputFull at) (λ n. refl)));
-        list = λ at. (list_stops at, (λ x. stops_told (Skipped at) x (ListFull at) (λ n. refl)));
+        output = λ at. (output_stops at, (λ x. stops_told (Kept at) x (Err (OutputFull at)) (λ n. refl)));
+        list = λ at. (list_stops at, (λ x. stops_told (Skipped at) x (Err (ListFull at)) (λ n. refl)));
       }
 
 -- ---- the items before the place where it stops are part of all
@@ -208,30 +209,30 @@ skips_before a (Kept at n) b = omega (arith, skips_append a (Kept at n ∷ []), 
 skips_before a (Skipped at n) b = omega (arith, skips_append a (Skipped at n ∷ []), skips_append a (Skipped at n ∷ b))
 
 -- ---- the items written follow one another up to the byte told
-follow_pick : (t : Bool) (p e : ℕ) (a : List Item) (x y : Ended) → Follow p a (stop_of x e) → p ≡ stop_of y e → Follow p (pick t a []) (stop_of (pick t x y) e)
+follow_pick : (t : Bool) (p e : ℕ) (a : List Item) (x y : Result ⊤ Full) → Follow p a (stop_of x e) → p ≡ stop_of y e → Follow p (pick t a []) (stop_of (pick t x y) e)
 follow_pick true p e a x y f h = f
 follow_pick false p e a x y f h = h
 
 follow_fitting : (p e : ℕ) (is : List Item) (room slots : ℕ) → Follow p is e → Follow p (fitting room slots is) (stop_of (end_of room slots is) e)
 follow_fitting p e [] room slots f = f
 follow_fitting p e (Kept at n ∷ is) room slots f =
-    follow_pick (leb n room) p e (Kept at n ∷ fitting (room - n) slots is) (end_of (room - n) slots is) (OutputFull at)
+    follow_pick (leb n room) p e (Kept at n ∷ fitting (room - n) slots is) (end_of (room - n) slots is) (Err (OutputFull at))
     (f.0, (f.1.0, follow_fitting (p + n) e is (room - n) slots f.1.1)) (sym f.0)
 follow_fitting p e (Skipped at n ∷ is) room slots f =
-    follow_pick (leb 1 slots) p e (Skipped at n ∷ fitting room (slots - 1) is) (end_of room (slots - 1) is) (ListFull at)
+    follow_pick (leb 1 slots) p e (Skipped at n ∷ fitting room (slots - 1) is) (end_of room (slots - 1) is) (Err (ListFull at))
     (f.0, (f.1.0, follow_fitting (p + n) e is room (slots - 1) f.1.1)) (sym f.0)
 
-stop_pick : (t : Bool) (x y : Ended) (e : ℕ) → stop_of x e ≤ e → stop_of y e ≤ e → stop_of (pick t x y) e ≤ e
+stop_pick : (t : Bool) (x y : Result ⊤ Full) (e : ℕ) → stop_of x e ≤ e → stop_of y e ≤ e → stop_of (pick t x y) e ≤ e
 stop_pick true x y e f g = f
 stop_pick false x y e f g = g
 
 stop_le : (p e : ℕ) (is : List Item) (room slots : ℕ) → Follow p is e → stop_of (end_of room slots is) e ≤ e
 stop_le p e [] room slots f = omega arith
 stop_le p e (Kept at n ∷ is) room slots f =
-    stop_pick (leb n room) (end_of (room - n) slots is) (OutputFull at) e (stop_le (p + n) e is (room - n) slots f.1.1)
+    stop_pick (leb n room) (end_of (room - n) slots is) (Err (OutputFull at)) e (stop_le (p + n) e is (room - n) slots f.1.1)
     (omega (arith, f.0, follow_le (p + n) e is f.1.1))
 stop_le p e (Skipped at n ∷ is) room slots f =
-    stop_pick (leb 1 slots) (end_of room (slots - 1) is) (ListFull at) e (stop_le (p + n) e is room (slots - 1) f.1.1)
+    stop_pick (leb 1 slots) (end_of room (slots - 1) is) (Err (ListFull at)) e (stop_le (p + n) e is room (slots - 1) f.1.1)
     (omega (arith, f.0, follow_le (p + n) e is f.1.1))
 
 -- ---- what a call left

@@ -12,11 +12,12 @@ use lib.ListN.{length, take, drop, length-drop}
 use lib.Seq.{drop-drop}
 use borrow.Author.Tests.{leb-true, leb-false, le-leb, lt-leb}
 use Rattle.strings.specs.Number.{Bytes}
+use Rattle.salvage.specs.declared.Full.{Full}
+use Rattle.std.specs.Prelude.{Result, Ok, Err, ⊤}
 use Rattle.strings.specs.Pick.{pick}
 use Rattle.fields.specs.Fields.{size_in, size_at}
 use Rattle.fields.proofs.Near.{size_small}
-use Rattle.salvage.specs.declared.Ended.{Ended}
-use Rattle.salvage.specs.declared.Ended.TheVariants.{Whole, OutputFull, ListFull}
+use Rattle.salvage.specs.declared.Full.TheVariants.{Output as OutputFull, List as ListFull}
 use Rattle.salvage.specs.declared.Salvaged.{Salvaged}
 use Rattle.salvage.specs.Items.{Item, Kept, Skipped, count_of, two_follow, one_ends, resumes, search_from, next_place, items_from, items_of}
 use Rattle.salvage.specs.Rules.{Follow}
@@ -91,7 +92,7 @@ record Splits (s : List ℕ) (p : ℕ) (is : List Item) : Type 0 where
   pub is_rest : is ≡ rest s p
   pub split : (room slots : ℕ) → is ≡ fitting room slots is ++ rest s (stop_of (end_of room slots is) (length s))
 
-split_pick : (s : List ℕ) (p : ℕ) (t : Bool) (i : Item) (is w : List Item) (e e' : Ended) → i ∷ is ≡ rest s p → stop_of e' (length s) ≡ p
+split_pick : (s : List ℕ) (p : ℕ) (t : Bool) (i : Item) (is w : List Item) (e e' : Result ⊤ Full) → i ∷ is ≡ rest s p → stop_of e' (length s) ≡ p
     → is ≡ w ++ rest s (stop_of e (length s)) → i ∷ is ≡ pick t (i ∷ w) [] ++ rest s (stop_of (pick t e e') (length s))
 split_pick s p true i is w e e' r h f = ap (λ (l : List Item). i ∷ l) f
 split_pick s p false i is w e e' r h f = r ∙ ap (rest s) (sym h)
@@ -106,7 +107,7 @@ splits s =
     record {
       is_rest = r;
       split = λ room slots.
-          split_pick s p (leb 1 slots) (Skipped p c) is (fitting room (slots - 1) is) (end_of room (slots - 1) is) (ListFull p) r refl (f.split room (slots - 1));
+          split_pick s p (leb 1 slots) (Skipped p c) is (fitting room (slots - 1) is) (end_of room (slots - 1) is) (Err (ListFull p)) r refl (f.split room (slots - 1));
     })
     (λ p is l z f.
     let n = size_at s p in
@@ -114,7 +115,7 @@ splits s =
     record {
       is_rest = r;
       split = λ room slots.
-          split_pick s p (leb n room) (Kept p n) is (fitting (room - n) slots is) (end_of (room - n) slots is) (OutputFull p) r refl (f.split (room - n) slots);
+          split_pick s p (leb n room) (Kept p n) is (fitting (room - n) slots is) (end_of (room - n) slots is) (Err (OutputFull p)) r refl (f.split (room - n) slots);
     })
 
 -- ---- bytes and stretches of items that are moved, and of items one after the other
@@ -201,7 +202,7 @@ module _ (file : List ℕ) (at : ℕ) (out list : List ℕ) (r : Salvaged) (out'
         ap₂ (λ (x y : List ℕ). x ++ y) here_list g.1 ∙ sym (stretches_append here more) ∙ ap stretches (sym here_then),
       )
 
-  gets_all : r.ended ≡ Whole → Gets file at (bytes_in r out') (onward at (list_in r list'))
+  gets_all : r.ended ≡ Ok tt → Gets file at (bytes_in r out') (onward at (list_in r list'))
   gets_all e =
       let w = unrefused (length out) (slots_of list) (items_of (drop at file)) (sym (ended_is (drop at file) out list r out' list' h) ∙ e) in
       let i : here ≡ rest file at = ap (moved_items at) w ∙ sym (rest_left file at) in

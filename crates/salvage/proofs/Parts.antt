@@ -7,9 +7,9 @@ use mathlib.Core.Path.{◌≡◌, refl, sym, ap, ap₂, ◌∙◌}
 use mathlib.Core.List.{List, [], ◌∷◌, ◌++◌, append_assoc}
 use lib.ListN.{length, take, drop, length-append, length-drop}
 use lib.Seq.{take-add, drop-drop, take-length, length-take-le, take-append-add, drop-append-add}
-use Rattle.salvage.specs.declared.Ended.{Ended}
-use Rattle.salvage.specs.declared.Ended.TheVariants.{Whole}
 use Rattle.salvage.specs.declared.Salvaged.{Salvaged}
+use Rattle.salvage.specs.declared.Full.{Full}
+use Rattle.std.specs.Prelude.{Result, Ok, ⊤}
 use Rattle.salvage.specs.Items.{Item, Kept, Skipped, items_of}
 use Rattle.salvage.specs.Rules.{Follow}
 use Rattle.salvage.specs.Writing.{kept_bytes, stretches, slots_of, Salvages}
@@ -110,5 +110,5 @@ module _ (file out list : List ℕ) (r : Salvaged) (out' list' : List ℕ) (h : 
         omega (arith, stretches_are file out list r out' list' h, f.1),
       )
 
-  pub all_parts : r.ended ≡ Whole → together file 0 (bytes_in r out') (list_in r list') ≡ file
-  all_parts e = parts.in_order_lem ∙ ap (λ (x : Ended). take (stop_of x (length file)) file) e ∙ take-length file
+  pub all_parts : r.ended ≡ Ok tt → together file 0 (bytes_in r out') (list_in r list') ≡ file
+  all_parts e = parts.in_order_lem ∙ ap (λ (x : Result ⊤ Full). take (stop_of x (length file)) file) e ∙ take-length file

@@ -12,6 +12,9 @@ use lib.Dec.{leb, eqb}
 use lib.ListN.{length, drop, length-drop}
 use lib.Seq.{drop-drop}
 use borrow.Author.Tests.{leb-true, leb-false, eqb-true, eq-eqb, ne_eqb}
+use Rattle.std.specs.Option.{MatchOption, unwrap_or}
+use Rattle.std.specs.declared.option.Option.{Option}
+use Rattle.std.specs.declared.option.Option.TheVariants.{None, Some}
 use Rattle.strings.specs.Pick.{pick}
 use Rattle.fields.specs.Fields.{is_good, size_in, size_at}
 use Rattle.fields.proofs.Whole.{size_is, size_none, good_size}
@@ -166,3 +169,15 @@ first_one s at q r f g =
 
 pub first_same : (s : List ℕ) (at q r : ℕ) → First s at q → First s at r → q ≡ r
 first_same s at q r f g = omega (arith, first_one s at q r f g, first_one s at r q g f)
+
+-- the code's search finds it
+pub next_found : (s : List ℕ) (at : ℕ) (r : Option ℕ) → at < length s
+    → MatchOption r ((k : ℕ) → at + 1 ≤ k → k < length s → resumes s k ≡ false)
+    (λ i. (at + 1 ≤ i) × (i < length s) × (resumes s i ≡ true) × ((k : ℕ) → at + 1 ≤ k → k < i → resumes s k ≡ false))
+    → unwrap_or r (length s) ≡ next_place s at
+next_found s at None l h =
+    let f : First s at (length s) = record { after = l; within = omega arith; none_before = λ k a b. h k (omega arith) b; here = λ b. absurd (omega arith) } in
+    first_same s at (length s) (next_place s at) f (next_first s at l)
+next_found s at (Some i) l h =
+    let f : First s at i = record { after = omega (arith, h.0); within = omega (arith, h.1); none_before = λ k a b. h.3 k (omega arith) b; here = λ b. h.2 } in
+    first_same s at i (next_place s at) f (next_first s at l)

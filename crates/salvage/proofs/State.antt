@@ -10,8 +10,9 @@ use lib.ListN.{length, take, drop, length-drop, take-append-drop}
 use lib.Seq.{drop-drop, length-take-le}
 use borrow.Author.Tests.{le-leb, lt-leb}
 use Rattle.fields.specs.Fields.{size_at}
-use Rattle.salvage.specs.declared.Ended.{Ended}
-use Rattle.salvage.specs.declared.Ended.TheVariants.{Whole, OutputFull, ListFull}
+use Rattle.salvage.specs.declared.Full.{Full}
+use Rattle.std.specs.Prelude.{Result, Ok, Err, ⊤}
+use Rattle.salvage.specs.declared.Full.TheVariants.{Output as OutputFull, List as ListFull}
 use Rattle.salvage.specs.Items.{Item, Kept, Skipped, next_place, items_of}
 use Rattle.salvage.specs.Writing.{fitting, end_of, kept_bytes, stretches, skips, slots_of, laid, answer_of, Salvages}
 use Rattle.salvage.proofs.Items.{rest, rest_all, rest_end, rest_bad, rest_good, field_in}
@@ -143,7 +144,7 @@ module _ {s out₀ list₀ out list : List ℕ} {at w k : ℕ} (st : State s out
         }
 
   -- nothing more is written: what the function must show
-  module _ (t : Ended) (g : left s out₀ list₀ at w k ≡ []) (d : end_of (length out₀ - w) (slots_of list₀ - k) (rest s at) ≡ t) where
+  module _ (t : Result ⊤ Full) (g : left s out₀ list₀ at w k ≡ []) (d : end_of (length out₀ - w) (slots_of list₀ - k) (rest s at) ≡ t) where
     stop-bytes : kept_bytes s (fitting (length out₀) (slots_of list₀) (items_of s)) ≡ take w out
     stop-bytes = st.bytes ∙ ap (λ (x : List Item). take w out ++ kept_bytes s x) g ∙ append-nil (take w out)
 
@@ -172,18 +173,18 @@ module _ {s out₀ list₀ out list : List ℕ} {at w k : ℕ} (st : State s out
     stop = record { answer = stop-answer; output = stop-out; listed = stop-list }
 
   -- the three ends
-  abbrev pub Stopped : Ended → Type 0
+  abbrev pub Stopped : Result ⊤ Full → Type 0
   Stopped t = Salvages s out₀ list₀ (record { written = w; stretches = k; ended = t }) out list
 
-  pub no_stretch : at < length s → size_at s at ≡ 0 → slots_of list ≤ k → Stopped (ListFull at)
+  pub no_stretch : at < length s → size_at s at ≡ 0 → slots_of list ≤ k → Stopped (Err (ListFull at))
   no_stretch h z f =
       let l = lt-leb 1 (slots_of list₀ - k) (omega (arith, f, st.list_len)) in
-      stop (ListFull at) (rw (rest_bad s at h z) (rw l refl)) (rw (rest_bad s at h z) (rw l refl))
+      stop (Err (ListFull at)) (rw (rest_bad s at h z) (rw l refl)) (rw (rest_bad s at h z) (rw l refl))
 
-  pub no_room_lem : (n : ℕ) → at < length s → n ≡ size_at s at → (n ≡ 0 → ⊥) → length out - w < n → Stopped (OutputFull at)
+  pub no_room_lem : (n : ℕ) → at < length s → n ≡ size_at s at → (n ≡ 0 → ⊥) → length out - w < n → Stopped (Err (OutputFull at))
   no_room_lem n h e z f =
       let l = lt-leb n (length out₀ - w) (omega (arith, f, st.out_len)) in
-      stop (OutputFull at) (rw (rest_good s at n h e z) (rw l refl)) (rw (rest_good s at n h e z) (rw l refl))
+      stop (Err (OutputFull at)) (rw (rest_good s at n h e z) (rw l refl)) (rw (rest_good s at n h e z) (rw l refl))
 
-  pub all_told : length s ≤ at → Stopped Whole
-  all_told h = stop Whole (rw (rest_end s at h) refl) (rw (rest_end s at h) refl)
+  pub all_told : length s ≤ at → Stopped (Ok tt)
+  all_told h = stop (Ok tt) (rw (rest_end s at h) refl) (rw (rest_end s at h) refl)

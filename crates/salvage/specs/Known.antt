@@ -1,8 +1,8 @@
 -- Files of a few bytes, their items, and what is written of them, computed from the definitions.
 -- Assumes nothing.
-use Rattle.std.specs.Prelude.{ℕ, List, [], ◌∷◌, ◌++◌, ◌≡◌, refl}
+use Rattle.std.specs.Prelude.{ℕ, List, [], ◌∷◌, ◌++◌, ◌≡◌, refl, Ok, Err}
 use Rattle.fields.specs.Fields.{is_good, size_in}
-use Rattle.salvage.specs.declared.Ended.TheVariants.{Whole, OutputFull, ListFull}
+use Rattle.salvage.specs.declared.Full.TheVariants.{Output as OutputFull, List as ListFull}
 use Rattle.salvage.specs.Items.{Kept, Skipped, resumes, next_place, items_of}
 use Rattle.salvage.specs.Writing.{fitting, end_of, end_number, kept_bytes, stretches}
 
@@ -40,11 +40,11 @@ pub record Known : Type 0 where
   pub bytes : kept_bytes stray (items_of stray) ≡ reset ++ silent
   pub list : stretches (items_of dense) ≡ 0 ∷ 1 ∷ 7 ∷ 1 ∷ []
   -- the ends: whole; no room for the last field; no room for a stretch; the stretch before the field that follows it
-  pub ends : (end_of 7 1 (items_of stray) ≡ Whole)
-      × ((end_of 6 1 (items_of stray) ≡ OutputFull 5) × ((end_of 7 0 (items_of stray) ≡ ListFull 4) × (end_of 2 0 (items_of dense) ≡ ListFull 0)))
+  pub ends : (end_of 7 1 (items_of stray) ≡ Ok tt)
+      × ((end_of 6 1 (items_of stray) ≡ Err (OutputFull 5)) × ((end_of 7 0 (items_of stray) ≡ Err (ListFull 4)) × (end_of 2 0 (items_of dense) ≡ Err (ListFull 0))))
   pub stops : fitting 6 1 (items_of stray) ≡ Kept 0 4 ∷ Skipped 4 1 ∷ []
   -- "44 no room in the output for the next field, 45 no room for the next stretch"
-  pub numbers : (end_number Whole ≡ 0) × ((end_number (OutputFull 5) ≡ 44) × (end_number (ListFull 4) ≡ 45))
+  pub numbers : (end_number (Ok tt) ≡ 0) × ((end_number (Err (OutputFull 5)) ≡ 44) × (end_number (Err (ListFull 4)) ≡ 45))
 
 pub known : Known
 unfolding is_good size_in resumes next_place items_of

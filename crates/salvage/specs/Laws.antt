@@ -1,10 +1,10 @@
 -- What holds of every salvage, whatever the file, the output and the list. Proved as `laws` in `proofs/Laws.antt`.
 -- Assumes nothing.
-use Rattle.std.specs.Prelude.{ℕ, ◌+◌, ◌-◌, ◌*◌, ◌/◌, ◌≤◌, ◌<◌, List, [], ◌∷◌, ◌++◌, ◌↔◌, ◌≡◌, length, take, drop}
+use Rattle.std.specs.Prelude.{ℕ, ◌+◌, ◌-◌, ◌*◌, ◌/◌, ◌≤◌, ◌<◌, List, [], ◌∷◌, ◌++◌, ◌↔◌, ◌≡◌, length, take, drop, Result, Ok, Err, ⊤}
+use Rattle.salvage.specs.declared.Full.{Full}
 use Rattle.strings.specs.Number.{Bytes}
 use Rattle.fields.specs.Block.{Call, call_in, calls_in, end_in}
-use Rattle.salvage.specs.declared.Ended.{Ended}
-use Rattle.salvage.specs.declared.Ended.TheVariants.{Whole, OutputFull, ListFull}
+use Rattle.salvage.specs.declared.Full.TheVariants.{Output as OutputFull, List as ListFull}
 use Rattle.salvage.specs.declared.Salvaged.{Salvaged}
 use Rattle.salvage.specs.Items.{Item, Kept, Skipped, items_of}
 use Rattle.salvage.specs.Rules.{Keeps}
@@ -17,10 +17,10 @@ bytes_in r out' = take r.written out'
 abbrev pub list_in : Salvaged → List ℕ → List ℕ
 list_in r list' = take (2 * r.stretches) list'
 
-abbrev pub stop_of : Ended → ℕ → ℕ
-stop_of Whole n = n
-stop_of (OutputFull at) n = at
-stop_of (ListFull at) n = at
+abbrev pub stop_of : Result ⊤ Full → ℕ → ℕ
+stop_of (Ok _) n = n
+stop_of (Err (OutputFull at)) n = at
+stop_of (Err (ListFull at)) n = at
 
 -- ---- "kept and skipped bytes together": up to the first of each stretch so many of the kept bytes, and then the bytes of the stretch
 abbrev pub together : (file : List ℕ) → ℕ → (kept list : List ℕ) → List ℕ
@@ -41,7 +41,7 @@ pub record Parts (file : List ℕ) (r : Salvaged) (out' list' : List ℕ) : Type
 
 -- a file "is copied whole with an empty list"
 pub record Copied (file out list : List ℕ) (r : Salvaged) (out' list' : List ℕ) : Type 0 where
-  pub answer : r ≡ record { written = length file; stretches = 0; ended = Whole }
+  pub answer : r ≡ record { written = length file; stretches = 0; ended = Ok tt }
   pub output : out' ≡ laid file out
   pub listed : list' ≡ list
 
@@ -71,11 +71,11 @@ pub record StopsAt (items : List Item) (room slots : ℕ) (next : ℕ → Item) 
   pub full : Fit room slots (before ++ (next count ∷ [])) → ⊥
 
 -- each end exactly where its rule says
-pub record Ends (items : List Item) (room slots : ℕ) (ended : Ended) : Type 0 where
-  pub whole : (ended ≡ Whole) ↔ Fit room slots items
+pub record Ends (items : List Item) (room slots : ℕ) (ended : Result ⊤ Full) : Type 0 where
+  pub whole : (ended ≡ Ok tt) ↔ Fit room slots items
   -- "44 no room in the output for the next field, 45 no room for the next stretch"
-  pub output : (at : ℕ) → (ended ≡ OutputFull at) ↔ StopsAt items room slots (Kept at)
-  pub list : (at : ℕ) → (ended ≡ ListFull at) ↔ StopsAt items room slots (Skipped at)
+  pub output : (at : ℕ) → (ended ≡ Err (OutputFull at)) ↔ StopsAt items room slots (Kept at)
+  pub list : (at : ℕ) → (ended ≡ Err (ListFull at)) ↔ StopsAt items room slots (Skipped at)
 
 -- ---- going on: items and stretches that are told of a file from its byte n on, told of the whole file
 abbrev pub moved_items : ℕ → List Item → List Item
@@ -91,7 +91,7 @@ onward n (first ∷ count ∷ more) = (n + first) ∷ count ∷ onward n more
 -- a caller salvages from a place on, and where the call is refused empties its output and its list and goes on from the byte told: all the bytes and all the
 -- stretches that it gets
 pub data GoesOn (file : List ℕ) : ℕ → List ℕ → List ℕ → Type 0 where
-  ends : (at : ℕ) (out list : List ℕ) (r : Salvaged) (out' list' : List ℕ) → Salvages (drop at file) out list r out' list' → r.ended ≡ Whole
+  ends : (at : ℕ) (out list : List ℕ) (r : Salvaged) (out' list' : List ℕ) → Salvages (drop at file) out list r out' list' → r.ended ≡ Ok tt
       → GoesOn file at (bytes_in r out') (onward at (list_in r list'))
   goes : (at : ℕ) (out list : List ℕ) (r : Salvaged) (out' list' : List ℕ) (bytes told : List ℕ) → Salvages (drop at file) out list r out' list'
       → GoesOn file (at + stop_of r.ended (length (drop at file))) bytes told
@@ -113,7 +113,7 @@ pub record Laws : Type 0 where
       → (r.written ≤ length out) × (2 * r.stretches ≤ length list)
   -- "Unless refused, kept and skipped bytes together are the input, each byte once and in order"; and else up to the byte told
   pub parts : (file out list : List ℕ) (r : Salvaged) (out' list' : List ℕ) → Salvages file out list r out' list' → Parts file r out' list'
-  pub all_parts : (file out list : List ℕ) (r : Salvaged) (out' list' : List ℕ) → Salvages file out list r out' list' → r.ended ≡ Whole
+  pub all_parts : (file out list : List ℕ) (r : Salvaged) (out' list' : List ℕ) → Salvages file out list r out' list' → r.ended ≡ Ok tt
       → together file 0 (bytes_in r out') (list_in r list') ≡ file
   -- "an undamaged input is copied whole with an empty list": a block's reader comes to its end
   pub undamaged : (file out list : List ℕ) (r : Salvaged) (out' list' : List ℕ) → Salvages file out list r out' list' → end_in file ≡ 0 ∷ []
@@ -130,9 +130,9 @@ pub record Laws : Type 0 where
       → Ends (items_of file) (length out) (slots_of list) r.ended
   -- never 44 where the output is as long as the file; never 45 where the list has room for a stretch in each seven bytes, the last of them not full
   pub never_44 : (file out list : List ℕ) (r : Salvaged) (out' list' : List ℕ) → Salvages file out list r out' list' → length file ≤ length out
-      → (at : ℕ) → r.ended ≡ OutputFull at → ⊥
+      → (at : ℕ) → r.ended ≡ Err (OutputFull at) → ⊥
   pub never_45 : (file out list : List ℕ) (r : Salvaged) (out' list' : List ℕ) → Salvages file out list r out' list' → (length file + 6) / 7 ≤ slots_of list
-      → (at : ℕ) → r.ended ≡ ListFull at → ⊥
+      → (at : ℕ) → r.ended ≡ Err (ListFull at) → ⊥
   -- from the byte told, salvage of the rest of the file gives the rest of the items, moved by that byte
   pub rest : (file out list : List ℕ) (r : Salvaged) (out' list' : List ℕ) → Salvages file out list r out' list'
       → let stop = stop_of r.ended (length file) in

@@ -1,9 +1,9 @@
 -- What of the items of a file is written, where the output has room for so many bytes and the list for so many stretches, and the call's answer.
 -- Assumes nothing.
-use Rattle.std.specs.Prelude.{ℕ, suc, ◌-◌, ◌/◌, List, [], ◌∷◌, ◌++◌, ◌≡◌, leb, length, take, drop}
+use Rattle.std.specs.Prelude.{ℕ, suc, ◌-◌, ◌/◌, List, [], ◌∷◌, ◌++◌, ◌≡◌, leb, length, take, drop, Result, Ok, Err, ⊤}
+use Rattle.salvage.specs.declared.Full.{Full}
 use Rattle.strings.specs.Pick.{pick}
-use Rattle.salvage.specs.declared.Ended.{Ended}
-use Rattle.salvage.specs.declared.Ended.TheVariants.{Whole, OutputFull, ListFull}
+use Rattle.salvage.specs.declared.Full.TheVariants.{Output as OutputFull, List as ListFull}
 use Rattle.salvage.specs.declared.Salvaged.{Salvaged}
 use Rattle.salvage.specs.Items.{Item, Kept, Skipped, items_of}
 
@@ -14,15 +14,15 @@ fitting room slots (Kept at n ∷ is) = pick (leb n room) (Kept at n ∷ fitting
 fitting room slots (Skipped at n ∷ is) = pick (leb 1 slots) (Skipped at n ∷ fitting room (slots - 1) is) []
 
 -- "44 no room in the output for the next field, 45 no room for the next stretch; it stops .. and says at which byte", which is the item's first
-abbrev pub end_of : (room slots : ℕ) → List Item → Ended
-end_of room slots [] = Whole
-end_of room slots (Kept at n ∷ is) = pick (leb n room) (end_of (room - n) slots is) (OutputFull at)
-end_of room slots (Skipped at n ∷ is) = pick (leb 1 slots) (end_of room (slots - 1) is) (ListFull at)
+abbrev pub end_of : (room slots : ℕ) → List Item → Result ⊤ Full
+end_of room slots [] = Ok tt
+end_of room slots (Kept at n ∷ is) = pick (leb n room) (end_of (room - n) slots is) (Err (OutputFull at))
+end_of room slots (Skipped at n ∷ is) = pick (leb 1 slots) (end_of room (slots - 1) is) (Err (ListFull at))
 
-abbrev pub end_number : Ended → ℕ
-end_number Whole = 0
-end_number (OutputFull at) = 44
-end_number (ListFull at) = 45
+abbrev pub end_number : Result ⊤ Full → ℕ
+end_number (Ok _) = 0
+end_number (Err (OutputFull at)) = 44
+end_number (Err (ListFull at)) = 45
 
 -- ---- "It writes the fields found, unchanged"
 abbrev pub kept_bytes : List ℕ → List Item → List ℕ

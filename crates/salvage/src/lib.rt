@@ -10,19 +10,18 @@ pub use salvaging::salvage;
 pub use searching::goes_on;
 pub use writing::end_number;
 
-// How a salvage ended: the whole file is told, or there was no room in the output for the field at this
-// byte of the file, or none in the list for the stretch that starts at it.
+// Why a salvage stops before the end of the file: there is no room in the output for the field at this byte of the
+// file, or none in the list for the stretch that starts at it.
 #[derive(Clone, Copy)]
-pub enum Ended {
-    Whole,
-    OutputFull(usize),
-    ListFull(usize),
+pub enum Full {
+    Output(usize),
+    List(usize),
 }
 
-// How many bytes and how many stretches are written, and how it ended.
+// How many bytes and how many stretches are written, and whether the whole file is told or why not.
 #[derive(Clone, Copy)]
 pub struct Salvaged {
     pub written: usize,
     pub stretches: usize,
-    pub ended: Ended,
+    pub ended: Result<(), Full>,
 }

@@ -3,7 +3,7 @@ ghost use Rattle.salvage.specs.Writing.{Salvages};
 
 use crate::searching::next_place;
 use crate::writing::{put_field, put_stretch};
-use crate::{Ended, Salvaged};
+use crate::{Full, Salvaged};
 use fields::size_at;
 
 // Copies what can still be read of the file to the output, and lists the stretches that are skipped, two
@@ -21,7 +21,7 @@ pub fn salvage(file: &[u8], out: &mut [u8], list: &mut [usize]) -> Salvaged
                 return Salvaged {
                     written: w,
                     stretches: k,
-                    ended: Ended::ListFull(at),
+                    ended: Err(Full::List(at)),
                 };
             }
             let q = next_place(file, at);
@@ -33,7 +33,7 @@ pub fn salvage(file: &[u8], out: &mut [u8], list: &mut [usize]) -> Salvaged
                 return Salvaged {
                     written: w,
                     stretches: k,
-                    ended: Ended::OutputFull(at),
+                    ended: Err(Full::Output(at)),
                 };
             }
             put_field(file, at, n, out, w);
@@ -44,6 +44,6 @@ pub fn salvage(file: &[u8], out: &mut [u8], list: &mut [usize]) -> Salvaged
     Salvaged {
         written: w,
         stretches: k,
-        ended: Ended::Whole,
+        ended: Ok(()),
     }
 }

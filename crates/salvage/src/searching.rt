@@ -24,12 +24,7 @@ pub(crate) fn next_place(s: &[u8], at: usize) -> usize
     requires { at < length s.now }
     ensures { result ≡ next_place s.now at }
 {
-    let mut q = at + 1;
-    while q < s.len() {
-        if goes_on(s, q) {
-            return q;
-        }
-        q += 1;
-    }
-    q
+    (at + 1..s.len())
+        .find(|q| goes_on(s, *q))
+        .unwrap_or(s.len())
 }

@@ -2,7 +2,7 @@
 ghost use Rattle.std.specs.Prelude.{◌≡◌, ◌++◌, ◌∷◌, ◌+◌, ◌*◌, ◌≤◌, length, take, drop};
 ghost use Rattle.salvage.specs.Writing.{end_number};
 
-use crate::Ended;
+use crate::Full;
 
 // The n bytes of the file from `at` on, to the output from `w` on.
 pub(crate) fn put_field(file: &[u8], at: usize, n: usize, out: &mut [u8], w: usize)
@@ -24,12 +24,12 @@ pub(crate) fn put_stretch(list: &mut [usize], k: usize, first: usize, count: usi
 }
 
 // 0, 44 or 45.
-pub fn end_number(ended: Ended) -> u8
+pub fn end_number(ended: Result<(), Full>) -> u8
     ensures { result ≡ end_number ended }
 {
     match ended {
-        Ended::Whole => 0,
-        Ended::OutputFull(_) => 44,
-        Ended::ListFull(_) => 45,
+        Ok(()) => 0,
+        Err(Full::Output(_)) => 44,
+        Err(Full::List(_)) => 45,
     }
 }

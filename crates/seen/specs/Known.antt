@@ -1,7 +1,8 @@
 -- What a line tells of strings that are refused (the paper, the end of "Known strings and edges": "repaired bit (0 if none or number 1..4), m (0 for
 -- 1..5)"), computed from the definitions.
 -- Assumes nothing.
-use Rattle.std.specs.Prelude.{ℕ, ◌+◌, ◌^◌, List, [], ◌∷◌, ◌≡◌, refl, get_or}
+use Rattle.std.specs.Prelude.{ℕ, ◌+◌, ◌^◌, List, [], ◌∷◌, ◌≡◌, refl, get_or, Err}
+use Rattle.channel.specs.Offers.{took}
 use Rattle.strings.specs.declared.Refusal.{Refusal}
 use Rattle.strings.specs.declared.Refusal.TheVariants.{Channel, Shape, Damaged, Idle, Number, Early, Stale, OffBeat, Conflict, Range, Place, Room, Nothing, Slot, Owner, Card}
 use Rattle.strings.specs.declared.hamming.Damage.TheVariants.{Unplaced, Even, Outside}
@@ -15,7 +16,6 @@ use Rattle.relative.specs.Relative.{read_relative, write_relative, inverse}
 use Rattle.relative.specs.Polarity.{first_symbol}
 use Rattle.strings.specs.declared.Verdict.TheVariants.{Repaired}
 use Rattle.channel.specs.declared.News.TheVariants.{Kept}
-use Rattle.channel.specs.declared.Answer.TheVariants.{Taken, Refused}
 use Rattle.seen.specs.Seen.{seen, seen_in, comes_before_verdict, seen_by}
 
 -- ---- strings as they are sent
@@ -48,17 +48,17 @@ inverted s = bytes_of_string (inverse (number_of s))
 
 pub record Known : Type 0 where
   -- the repaired bit is told after NUMBER, and there m is 0; after STALE both are
-  pub number : seen_by (Refused Number) zero_repaired ≡ seen 9 0 0
-  pub stale : seen_by (Refused Stale) one_repaired ≡ seen 9 1 0
+  pub number : seen_by (Err Number) zero_repaired ≡ seen 9 0 0
+  pub stale : seen_by (Err Stale) one_repaired ≡ seen 9 1 0
   -- no refusal tells a polarity: the same string inverted is seen as it was; a taken one tells it
-  pub stale_inverted : seen_by (Refused Stale) (inverted one_repaired) ≡ seen 9 1 0
-  pub taken : seen_by (Taken 1 (Repaired 9) Kept Upright) one_repaired ≡ seen 9 1 0
-  pub taken_inverted : seen_by (Taken 1 (Repaired 9) Kept Inverted) (inverted one_repaired) ≡ seen 9 1 1
+  pub stale_inverted : seen_by (Err Stale) (inverted one_repaired) ≡ seen 9 1 0
+  pub taken : seen_by (took 1 (Repaired 9) Kept Upright) one_repaired ≡ seen 9 1 0
+  pub taken_inverted : seen_by (took 1 (Repaired 9) Kept Inverted) (inverted one_repaired) ≡ seen 9 1 1
   -- after DAMAGED, by each of its causes, and after IDLE neither is
-  pub unplaced : seen_by (Refused (Damaged Unplaced)) one_unplaced ≡ seen 0 0 0
-  pub even : seen_by (Refused (Damaged Even)) one_even ≡ seen 0 0 0
-  pub outside : seen_by (Refused (Damaged Outside)) one_outside ≡ seen 0 0 0
-  pub idle : seen_by (Refused Idle) one_idle ≡ seen 0 0 0
+  pub unplaced : seen_by (Err (Damaged Unplaced)) one_unplaced ≡ seen 0 0 0
+  pub even : seen_by (Err (Damaged Even)) one_even ≡ seen 0 0 0
+  pub outside : seen_by (Err (Damaged Outside)) one_outside ≡ seen 0 0 0
+  pub idle : seen_by (Err Idle) one_idle ≡ seen 0 0 0
   -- "number 1..4", where "the listing's zeros treat each as 3" of 31 to 33
   pub before_verdict : (q : Refusal) → comes_before_verdict q ≡ is_one_of (16 ∷ 1 ∷ 15 ∷ 2 ∷ 31 ∷ 32 ∷ 33 ∷ 4 ∷ []) (get_or (refusal_paper q) 0 0)
 

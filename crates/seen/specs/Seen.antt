@@ -1,6 +1,7 @@
 -- What the code finds out of a string for its line: from the answer where it is taken, else by reading and checking it again.
 -- Assumes nothing.
-use Rattle.std.specs.Prelude.{ℕ, Bool, true, false, List, eqb}
+use Rattle.std.specs.Prelude.{ℕ, Bool, true, false, List, eqb, Result, Err, Ok}
+use Rattle.channel.specs.declared.TakenString.{TakenString}
 use Rattle.strings.specs.Pick.{pick}
 use Rattle.strings.specs.declared.Refusal.{Refusal}
 use Rattle.strings.specs.declared.Refusal.TheVariants.{Channel, Shape, Damaged, Idle, Number, Early, Stale, OffBeat, Conflict, Range, Place, Room, Nothing, Slot, Owner, Card}
@@ -9,8 +10,6 @@ use Rattle.strings.specs.declared.Verdict.TheVariants.{Clean, Repaired}
 use Rattle.strings.specs.Numbers.{first_of}
 use Rattle.words.specs.Calls.{number_in}
 use Rattle.relative.specs.Polarity.{polarity_number}
-use Rattle.channel.specs.declared.Answer.{Answer}
-use Rattle.channel.specs.declared.Answer.TheVariants.{Taken, Refused}
 use Rattle.hearing.specs.Hears.{whole_of, verdict_in, hear_tests}
 use Rattle.seen.specs.declared.seeing.Seen.{Seen}
 
@@ -50,6 +49,6 @@ comes_before_verdict Owner = true
 comes_before_verdict Card = true
 
 -- of a string with this answer
-unfoldable pub seen_by : Answer → List ℕ → Seen
-seen_by (Taken m v w p) s = seen (bit_in v) m (polarity_number p)
-seen_by (Refused q) s = pick (comes_before_verdict q) (seen 0 0 0) (seen_in s)
+unfoldable pub seen_by : Result TakenString Refusal → List ℕ → Seen
+seen_by (Ok said) s = seen (bit_in said.verdict) said.m (polarity_number said.polarity)
+seen_by (Err q) s = pick (comes_before_verdict q) (seen 0 0 0) (seen_in s)

@@ -5,10 +5,10 @@ ghost use Rattle.std.specs.Prelude.{◌≡◌, get_or};
 ghost use Rattle.channel.specs.Offers.{answer_paper};
 ghost use Rattle.seen.specs.Seen.{bit_in, seen, seen_in, comes_before_verdict, seen_by};
 
-use channel::Answer;
+use channel::TakenString;
 use hearing::hear;
 use relative::polarity_number;
-use strings::{Checked, Refusal, Verdict};
+use strings::{Refusal, Verdict};
 
 #[derive(Clone, Copy)]
 pub struct Seen {
@@ -18,32 +18,32 @@ pub struct Seen {
 }
 
 // The number of an answer, 0 where the string is taken.
-pub fn number_told(a: Answer) -> u8
+pub fn number_told(a: Result<TakenString, Refusal>) -> u8
     ensures { result ≡ get_or (answer_paper a) 0 0 }
 {
     match a {
-        Answer::Taken(_, _, _, _) => 0,
-        Answer::Refused(why) => strings::refusal_number(why),
+        Ok(_) => 0,
+        Err(why) => strings::refusal_number(why),
     }
 }
 
 // What the answer to a string lets a line tell.
-pub fn seen_by(a: Answer, s: &[u8]) -> Seen
+pub fn seen_by(a: Result<TakenString, Refusal>, s: &[u8]) -> Seen
     ensures { result ≡ seen_by a s.now }
 {
     match a {
-        Answer::Taken(m, v, _, p) => Seen {
-            repaired: bit_in(v),
-            m,
-            polarity: polarity_number(p),
+        Ok(taken) => Seen {
+            repaired: bit_in(taken.verdict),
+            m: taken.m,
+            polarity: polarity_number(taken.polarity),
         },
-        Answer::Refused(why) => seen_after(why, s),
+        Err(why) => seen_after(why, s),
     }
 }
 
 // NUMBER needs no word of its own: its m is 0.
 fn seen_after(why: Refusal, s: &[u8]) -> Seen
-    ensures { result ≡ seen_by (Answer.Refused why) s.now }
+    ensures { result ≡ seen_by (Err why) s.now }
 {
     if comes_before_verdict(why) {
         return nothing();
@@ -56,24 +56,15 @@ fn seen_after(why: Refusal, s: &[u8]) -> Seen
 fn comes_before_verdict(why: Refusal) -> bool
     ensures { result ≡ comes_before_verdict why }
 {
-    match why {
-        Refusal::Channel => true,
-        Refusal::Shape => true,
-        Refusal::Damaged(_) => true,
-        Refusal::Idle => true,
-        Refusal::Number => false,
-        Refusal::Early => false,
-        Refusal::Stale => false,
-        Refusal::OffBeat => false,
-        Refusal::Conflict => false,
-        Refusal::Range(_) => false,
-        Refusal::Place => false,
-        Refusal::Room => false,
-        Refusal::Nothing => false,
-        Refusal::Slot => false,
-        Refusal::Owner => true,
-        Refusal::Card => true,
-    }
+    matches!(
+        why,
+        Refusal::Channel
+            | Refusal::Shape
+            | Refusal::Damaged(_)
+            | Refusal::Idle
+            | Refusal::Owner
+            | Refusal::Card
+    )
 }
 
 // What is heard of a string shows the bit and m.
@@ -83,8 +74,8 @@ fn see(s: &[u8]) -> Seen
     let mut whole = [0u8; 11];
     let heard = hear(s, &mut whole);
     match heard {
-        Checked::Refused(_) => nothing(),
-        Checked::Taken(v) => Seen {
+        Err(_) => nothing(),
+        Ok(v) => Seen {
             repaired: bit_in(v),
             m: words::number_in(&whole),
             polarity: 0,
@@ -102,7 +93,7 @@ fn nothing() -> Seen
     }
 }
 
-// The bit that a verdict names, 0 where it names none.
+// The bit that a verdict names, 0 where it names none: a line of the listing has numbers alone.
 fn bit_in(v: Verdict) -> u8
     ensures { result ≡ bit_in v }
 {

@@ -11,9 +11,8 @@ use lib.Dec.{eqb}
 use lib.ListN.{length, get_or}
 use lib.Seq.{get_or-set_same, get_or-set_other}
 use Rattle.book.specs.declared.Entry.{Entry}
+use Rattle.std.specs.Prelude.{Option, Some, None}
 use Rattle.book.specs.declared.Book.{Book}
-use Rattle.book.specs.declared.Shown.{Shown}
-use Rattle.book.specs.declared.Shown.TheVariants.{Nothing, At}
 use Rattle.book.specs.Entry.{Three, blank, meaning, is_below, greater}
 use Rattle.book.specs.Book.{InBook, place_in, rises_above, joined_entry, joined_shown}
 use Rattle.book.proofs.Order.{below_irrefl, below_cut, greater_left}
@@ -27,7 +26,7 @@ neither : (p q : Bool) → (p || q) ≡ false → (p ≡ false) × (q ≡ false)
 neither true q h = absurd (true≢false h)
 neither false q h = (refl, h)
 
-pub unchanged : (ss : List Shown) (b : Book) → changes b ss ≡ false → brought b ss ≡ b
+pub unchanged : (ss : List (Option (ℕ × Entry))) (b : Book) → changes b ss ≡ false → brought b ss ≡ b
 unfolding changes brought
 unchanged [] b h = refl
 unchanged (s ∷ ss) b h =
@@ -42,15 +41,15 @@ at b i = get_or b.entries i blank
 abbrev NoLower : Entry → Entry → Type 0
 NoLower a b = is_below (meaning a) (meaning b) ≡ false
 
-joined_no_lower : (old : Entry) (s : Shown) → NoLower (joined_entry old s) old
+joined_no_lower : (old : Entry) (s : Option (ℕ × Entry)) → NoLower (joined_entry old s) old
 unfolding joined_entry
-joined_no_lower old Nothing = below_irrefl (meaning old)
-joined_no_lower old (At k e) = greater_left old e
+joined_no_lower old None = below_irrefl (meaning old)
+joined_no_lower old (Some (k, e)) = greater_left old e
 
-joined_above : (old : Entry) (s : Shown) → rises_above old s ≡ true → is_below (meaning old) (meaning (joined_entry old s)) ≡ true
+joined_above : (old : Entry) (s : Option (ℕ × Entry)) → rises_above old s ≡ true → is_below (meaning old) (meaning (joined_entry old s)) ≡ true
 unfolding joined_entry greater
-joined_above old Nothing h = absurd (false≢true h)
-joined_above old (At k e) h = rw h h
+joined_above old None h = absurd (false≢true h)
+joined_above old (Some (k, e)) h = rw h h
 
 -- below or equal, then below
 below_later : (s t u : Three) → is_below t s ≡ false → is_below t u ≡ true → is_below s u ≡ true
@@ -69,11 +68,11 @@ not_lower x y z p q = by (is_below (meaning z) (meaning x)) refl
     by false r = refl
 
 -- ---- a join, at each place of a book that has its slots
-in_place : (b : Book) (s : Shown) → Full b → InBook s → place_in s < length b.entries
-in_place b Nothing f i = omega (arith, f)
-in_place b (At k e) f i = omega (arith, f, i.0, i.1)
+in_place : (b : Book) (s : Option (ℕ × Entry)) → Full b → InBook s → place_in s < length b.entries
+in_place b None f i = omega (arith, f)
+in_place b (Some (k, e)) f i = omega (arith, f, i.0, i.1)
 
-module _ (b : Book) (s : Shown) (f : Full b) (h : InBook s) where
+module _ (b : Book) (s : Option (ℕ × Entry)) (f : Full b) (h : InBook s) where
   joined_at : at (joined_shown b s) (place_in s) ≡ joined_entry (at b (place_in s)) s
   joined_at =
       ap (λ (x : Book). at x (place_in s)) (sym (shown_in_place b s))
@@ -94,7 +93,7 @@ module _ (b : Book) (s : Shown) (f : Full b) (h : InBook s) where
 
 -- ---- all that is shown
 -- no entry is below what it was
-no_lower : (ss : List Shown) (b : Book) → Full b → AllInBook ss → (i : ℕ) → NoLower (at (brought b ss) i) (at b i)
+no_lower : (ss : List (Option (ℕ × Entry))) (b : Book) → Full b → AllInBook ss → (i : ℕ) → NoLower (at (brought b ss) i) (at b i)
 unfolding brought
 no_lower [] b f a i = below_irrefl (meaning (at b i))
 no_lower (s ∷ ss) b f a i =
@@ -106,7 +105,7 @@ record Risen (b left : Book) : Type 0 where
   place : ℕ
   above : is_below (meaning (at b place)) (meaning (at left place)) ≡ true
 
-risen : (ss : List Shown) (b : Book) → Full b → AllInBook ss → changes b ss ≡ true → Risen b (brought b ss)
+risen : (ss : List (Option (ℕ × Entry))) (b : Book) → Full b → AllInBook ss → changes b ss ≡ true → Risen b (brought b ss)
 unfolding changes brought
 risen [] b f a h = absurd (false≢true h)
 risen (s ∷ ss) b f a h = by (rises_in b s) refl h (risen ss (joined_shown b s) (shown_full b s f) a.1)
@@ -132,7 +131,7 @@ risen (s ∷ ss) b f a h = by (rises_in b s) refl h (risen ss (joined_shown b s)
         }
 
 -- so the same book is left only where nothing changes
-same_left : (ss : List Shown) (b : Book) → Full b → AllInBook ss → brought b ss ≡ b → changes b ss ≡ false
+same_left : (ss : List (Option (ℕ × Entry))) (b : Book) → Full b → AllInBook ss → brought b ss ≡ b → changes b ss ≡ false
 same_left ss b f a e = by (changes b ss) refl
   where
     by : (t : Bool) → changes b ss ≡ t → t ≡ false
@@ -148,7 +147,7 @@ same_left ss b f a e = by (changes b ss) refl
 -- NOTHING CHANGES EXACTLY WHERE THE SAME BOOK IS LEFT
 pub every_change : EveryChange
 every_change b f =
-    let exactly : (ss : List Shown) → AllInBook ss → ChangesExactly b ss = λ ss a. (unchanged ss b, same_left ss b f a) in
+    let exactly : (ss : List (Option (ℕ × Entry))) → AllInBook ss → ChangesExactly b ss = λ ss a. (unchanged ss b, same_left ss b f a) in
     record {
       shown = exactly;
       by_frame = λ g. exactly (shows_of g) (in_book g 6, (in_book g 8, (in_book g 10, (in_book g 12, (in_book g 14, tt)))));

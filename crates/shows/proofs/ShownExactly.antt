@@ -10,11 +10,11 @@ use borrow.Author.Tests.{eqb-true}
 use lib.Dec.{T, eqb, leb}
 use lib.ListN.{get_or}
 use Rattle.strings.specs.Pick.{pick}
+use Rattle.std.specs.Prelude.{Some, None}
 use Rattle.strings.specs.Number.{word_of}
 use Rattle.strings.proofs.Below.{below_at, both}
 use Rattle.words.proofs.WordBits.{word_lt}
 use Rattle.book.specs.declared.Entry.{Entry}
-use Rattle.book.specs.declared.Shown.TheVariants.{Nothing, At}
 use Rattle.book.specs.Shows.{shown_by}
 use Rattle.book.specs.ShownExactly.{SomeEntry}
 use Rattle.book.proofs.ShownExactly.{shown_exactly}
@@ -93,11 +93,11 @@ module _ (f : Frame) (p : ℕ) where
   abbrev three_there : Bool
   three_there = f.has 5 && (f.has p && f.has (p + 1))
 
-  at_pair : (slot : ℕ) (e : Entry) → shown_at f p ≡ At slot e → (has_pair f p ≡ true) × (shown_by (f.text 5) (f.text p) (f.text (p + 1)) ≡ At slot e)
+  at_pair : (slot : ℕ) (e : Entry) → shown_at f p ≡ Some (slot, e) → (has_pair f p ≡ true) × (shown_by (f.text 5) (f.text p) (f.text (p + 1)) ≡ Some (slot, e))
   at_pair slot e q = by (has_pair f p) refl q
     where
-      by : (t : Bool) → has_pair f p ≡ t → pick t (shown_by (f.text 5) (f.text p) (f.text (p + 1))) Nothing ≡ At slot e
-          → (has_pair f p ≡ true) × (shown_by (f.text 5) (f.text p) (f.text (p + 1)) ≡ At slot e)
+      by : (t : Bool) → has_pair f p ≡ t → pick t (shown_by (f.text 5) (f.text p) (f.text (p + 1))) None ≡ Some (slot, e)
+          → (has_pair f p ≡ true) × (shown_by (f.text 5) (f.text p) (f.text (p + 1)) ≡ Some (slot, e))
       by true h q = (h, q)
       by false h q = let z : ◌≡◌ {A = ℕ} 0 1 = cc in absurd (omega arith)
 
@@ -118,7 +118,7 @@ module _ (f : Frame) (p : ℕ) where
       record { slot = s.slot; entry = s.entry; is = rw (g.five, g.even, g.odd, h) s.is }
 
 -- the five in turn
-pair_at : (f : Frame) (j : ℕ) → j < 5 → get_or (shows_of f) j Nothing ≡ shown_at f (6 + 2 * j)
+pair_at : (f : Frame) (j : ℕ) → j < 5 → get_or (shows_of f) j None ≡ shown_at f (6 + 2 * j)
 pair_at f zero h = refl
 pair_at f (suc zero) h = refl
 pair_at f (suc (suc zero)) h = refl

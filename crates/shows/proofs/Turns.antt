@@ -7,18 +7,19 @@ use mathlib.Core.Bool.{Bool, true, false, ◌&&◌, ◌||◌}
 use mathlib.Core.List.{List, [], ◌∷◌}
 use mathlib.Core.Path.{◌≡◌, refl, sym}
 use Rattle.strings.specs.Pick.{pick}
+use Rattle.book.specs.declared.Entry.{Entry}
+use Rattle.std.specs.Prelude.{Option}
 use Rattle.book.specs.declared.Book.{Book}
-use Rattle.book.specs.declared.Shown.{Shown}
 use Rattle.book.specs.Book.{joined_shown}
 use Rattle.channel.specs.Frame.{Frame}
 use Rattle.shows.specs.Shows.{shows_of, newly_shown, brought, rises_in, changes}
 
 -- the first j brought, `at j` being what is shown in turn j
-abbrev pub up_to : Book → (ℕ → Shown) → ℕ → Book
+abbrev pub up_to : Book → (ℕ → Option (ℕ × Entry)) → ℕ → Book
 up_to b at zero = b
 up_to b at (suc j) = joined_shown (up_to b at j) (at j)
 
-abbrev pub changed_to : Book → (ℕ → Shown) → ℕ → Bool
+abbrev pub changed_to : Book → (ℕ → Option (ℕ × Entry)) → ℕ → Bool
 changed_to b at zero = false
 changed_to b at (suc j) = changed_to b at j || rises_in (up_to b at j) (at j)
 
@@ -32,10 +33,10 @@ turn_kept true rises h = refl
 turn_kept false rises h = sym h
 
 -- the five in turn
-abbrev five : (ℕ → Shown) → List Shown
+abbrev five : (ℕ → Option (ℕ × Entry)) → List (Option (ℕ × Entry))
 five at = at 0 ∷ at 1 ∷ at 2 ∷ at 3 ∷ at 4 ∷ []
 
-pub five_brought : (b : Book) (at : ℕ → Shown) → up_to b at 5 ≡ brought b (five at)
+pub five_brought : (b : Book) (at : ℕ → Option (ℕ × Entry)) → up_to b at 5 ≡ brought b (five at)
 unfolding brought
 five_brought b at = refl
 
@@ -47,7 +48,7 @@ one_of false false false true t = refl
 one_of false false false false true = refl
 one_of false false false false false = refl
 
-pub five_changed : (b : Book) (at : ℕ → Shown) → changed_to b at 5 ≡ changes b (five at)
+pub five_changed : (b : Book) (at : ℕ → Option (ℕ × Entry)) → changed_to b at 5 ≡ changes b (five at)
 unfolding changes
 five_changed b at =
     one_of (rises_in (up_to b at 0) (at 0)) (rises_in (up_to b at 1) (at 1)) (rises_in (up_to b at 2) (at 2)) (rises_in (up_to b at 3) (at 3)) (rises_in (up_to b at 4) (at 4))

@@ -1,10 +1,9 @@
 -- Where a frame shows an entry, and which, in its strings and their bits (the paper, "Frames and the book"): "An entry is shown when a held frame has
 -- both halves of a pair and string 5, all words of the three in range, and N4 at least 1". The proof stands in `proofs/ShownExactly.antt`.
 -- Assumes nothing.
-use Rattle.std.specs.Prelude.{ℕ, ◌+◌, ◌*◌, ◌<◌, true, ◌↔◌, ◌⊎◌, ◌≡◌, length, get_or}
+use Rattle.std.specs.Prelude.{ℕ, ◌+◌, ◌*◌, ◌<◌, true, ◌↔◌, ◌⊎◌, ◌≡◌, length, get_or, Some, None}
 use Rattle.strings.specs.Number.{word_of}
 use Rattle.book.specs.declared.Entry.{Entry}
-use Rattle.book.specs.declared.Shown.TheVariants.{Nothing, At}
 use Rattle.book.specs.ShownExactly.{SomeEntry, InRange, EntryShown}
 use Rattle.channel.specs.Frame.{Frame}
 use Rattle.shows.specs.Shows.{shown_at, shows_of}
@@ -35,7 +34,7 @@ pub record FrameShows (f : Frame) : Type 0 where
   -- "In frames 1..4, strings 14 and 15 are an almanac pair; in frame 5, or with the number unknown, they are no pair"
   pub last : SomeEntry (shown_at f 14) ↔ (ThreeGood f 14 × InFrames1To4 f)
   -- the slot is the nA of string p, the day that of string 5, and the bits those of strings p and p+1
-  pub what : (p slot : ℕ) (e : Entry) → shown_at f p ≡ At slot e → EntryShown (f.text 5) (f.text p) (f.text (p + 1)) slot e
+  pub what : (p slot : ℕ) (e : Entry) → shown_at f p ≡ Some (slot, e) → EntryShown (f.text 5) (f.text p) (f.text (p + 1)) slot e
   -- and these five pairs are all
-  pub pairs : (j : ℕ) → j < 5 → get_or (shows_of f) j Nothing ≡ shown_at f (6 + 2 * j)
+  pub pairs : (j : ℕ) → j < 5 → get_or (shows_of f) j None ≡ shown_at f (6 + 2 * j)
   pub no_more : length (shows_of f) ≡ 5

@@ -9,11 +9,10 @@ use native.Mathlib.Omega.{arith}
 use borrow.Author.Tests.{eqb-true, eqb-false}
 use lib.Dec.{eqb}
 use Rattle.strings.specs.Pick.{pick}
+use Rattle.std.specs.Prelude.{Option, Some, None}
 use Rattle.strings.proofs.Answer.{written_same}
 use Rattle.book.specs.declared.Entry.{Entry}
 use Rattle.book.specs.declared.Book.{Book}
-use Rattle.book.specs.declared.Shown.{Shown}
-use Rattle.book.specs.declared.Shown.TheVariants.{Nothing, At}
 use Rattle.book.specs.Entry.{greater, Fits}
 use Rattle.book.specs.Shows.{shown_by}
 use Rattle.book.specs.Book.{slots, in_slot, joined_shown, InBook, IsBook}
@@ -51,11 +50,11 @@ grouped st a b = ap (λ (x : Book). record { rows = st.rows; book = x; summary =
 pub fitting_at : (f : Frame) (p : ℕ) → Fitting (shown_at f p)
 fitting_at f p = by (has_pair f p)
   where
-    by : (t : Bool) → Fitting (pick t (shown_by (f.text 5) (f.text p) (f.text (p + 1))) Nothing)
+    by : (t : Bool) → Fitting (pick t (shown_by (f.text 5) (f.text p) (f.text (p + 1))) None)
     by true = shown_fitting (f.text 5) (f.text p) (f.text (p + 1))
     by false = λ k e q. let z : ◌≡◌ {A = ℕ} 0 1 = cc in absurd (omega arith)
 
-abbrev AllSound : List Shown → Type 0
+abbrev AllSound : List (Option (ℕ × Entry)) → Type 0
 AllSound [] = Unit
 AllSound (s ∷ ss) = (InBook s × Fitting s) × AllSound ss
 
@@ -67,31 +66,31 @@ all_sound f = (at 6, (at 8, (at 10, (at 12, (at 14, tt)))))
 
 module _ (b o : Book) (full : Full b) (w : IsBook o) where
   -- one entry, for its slot and for every other
-  entry_joined : (j : ℕ) (e : Entry) → 1 ≤ j → j ≤ slots → Fits e → joined_shown (join_books b o) (At j e) ≡ join_books (joined_shown b (At j e)) o
+  entry_joined : (j : ℕ) (e : Entry) → 1 ≤ j → j ≤ slots → Fits e → joined_shown (join_books b o) (Some (j, e)) ≡ join_books (joined_shown b (Some (j, e))) o
   entry_joined j e least most f =
-      same_slots (joined_shown (join_books b o) (At j e)) (join_books (joined_shown b (At j e)) o) (shown_full (join_books b o) (At j e) (joined_long b o))
-      (joined_long (joined_shown b (At j e)) o) (λ k l m. by k l m (eqb k j) refl)
+      same_slots (joined_shown (join_books b o) (Some (j, e))) (join_books (joined_shown b (Some (j, e))) o) (shown_full (join_books b o) (Some (j, e)) (joined_long b o))
+      (joined_long (joined_shown b (Some (j, e))) o) (λ k l m. by k l m (eqb k j) refl)
     where
-      by : (k : ℕ) → 1 ≤ k → k ≤ slots → (t : Bool) → eqb k j ≡ t → in_slot (joined_shown (join_books b o) (At j e)) k ≡ in_slot (join_books (joined_shown b (At j e)) o) k
+      by : (k : ℕ) → 1 ≤ k → k ≤ slots → (t : Bool) → eqb k j ≡ t → in_slot (joined_shown (join_books b o) (Some (j, e))) k ≡ in_slot (join_books (joined_shown b (Some (j, e))) o) k
       by k l m true q =
           rw (eqb-true k j q)
           (shown_slot (join_books b o) j e (joined_long b o) least most
           ∙ ap (λ (x : Entry). greater x e) (slot_is b o j least most)
           ∙ greater_swap (in_slot b j) (in_slot o j) e (w.widths j least most) f
           ∙ ap (λ (x : Entry). greater x (in_slot o j)) (sym (shown_slot b j e full least most))
-          ∙ sym (slot_is (joined_shown b (At j e)) o j least most))
+          ∙ sym (slot_is (joined_shown b (Some (j, e))) o j least most))
       by k l m false q =
           let n = eqb-false k j q in
           shown_other (join_books b o) j e k least l n
           ∙ slot_is b o k l m
           ∙ ap (λ (x : Entry). greater x (in_slot o k)) (sym (shown_other b j e k least l n))
-          ∙ sym (slot_is (joined_shown b (At j e)) o k l m)
+          ∙ sym (slot_is (joined_shown b (Some (j, e))) o k l m)
 
-  shown_joined : (s : Shown) → InBook s → Fitting s → joined_shown (join_books b o) s ≡ join_books (joined_shown b s) o
-  shown_joined Nothing i f = shown_nothing (join_books b o) ∙ ap (λ (x : Book). join_books x o) (sym (shown_nothing b))
-  shown_joined (At j e) i f = entry_joined j e i.0 i.1 (f j e refl)
+  shown_joined : (s : Option (ℕ × Entry)) → InBook s → Fitting s → joined_shown (join_books b o) s ≡ join_books (joined_shown b s) o
+  shown_joined None i f = shown_nothing (join_books b o) ∙ ap (λ (x : Book). join_books x o) (sym (shown_nothing b))
+  shown_joined (Some (j, e)) i f = entry_joined j e i.0 i.1 (f j e refl)
 
-brought_joined : (ss : List Shown) (b o : Book) → AllSound ss → Full b → IsBook o → brought (join_books b o) ss ≡ join_books (brought b ss) o
+brought_joined : (ss : List (Option (ℕ × Entry))) (b o : Book) → AllSound ss → Full b → IsBook o → brought (join_books b o) ss ≡ join_books (brought b ss) o
 unfolding brought
 brought_joined [] b o a full w = refl
 brought_joined (s ∷ ss) b o a full w =

@@ -11,9 +11,9 @@ use native.Mathlib.Omega.{arith}
 use borrow.Author.Tests.{eq-eqb, eqb-true, eqb-false, ne_eqb, leb-true, leb-false, le-ltb, lt-ltb}
 use lib.Dec.{eqb, leb}
 use Rattle.strings.specs.Pick.{pick}
+use Rattle.std.specs.Prelude.{Some, None}
 use Rattle.book.specs.declared.Entry.{Entry}
 use Rattle.book.specs.declared.Book.{Book}
-use Rattle.book.specs.declared.Shown.TheVariants.{Nothing, At}
 use Rattle.book.specs.Entry.{Three, meaning, entry_of, greater, blank}
 use Rattle.book.specs.Shows.{shown_by}
 use Rattle.book.specs.Book.{slots, in_slot}
@@ -35,10 +35,10 @@ use Rattle.sites.proofs.Slots.{same_slots, joined_long, slot_is}
 use Rattle.sites.proofs.Union.{holding_both}
 
 -- ---- what is shown has a day
-shown_day : (f : Frame) (p k : ℕ) (e : Entry) → shown_at f p ≡ At k e → 1 ≤ e.day
+shown_day : (f : Frame) (p k : ℕ) (e : Entry) → shown_at f p ≡ Some (k, e) → 1 ≤ e.day
 shown_day f p k e = by (has_pair f p)
   where
-    by : (t : Bool) → pick t (shown_by (f.text 5) (f.text p) (f.text (p + 1))) Nothing ≡ At k e → 1 ≤ e.day
+    by : (t : Bool) → pick t (shown_by (f.text 5) (f.text p) (f.text (p + 1))) None ≡ Some (k, e) → 1 ≤ e.day
     by true q = (shown_fits (f.text 5) (f.text p) (f.text (p + 1)) k e q).day_least
     by false q = let z : ◌≡◌ {A = ℕ} 0 1 = cc in absurd (omega arith)
 
@@ -51,7 +51,7 @@ module _ (serves : Serving) (cs : List Call) (k : ℕ) (e : Entry) where
       let w = f.greatest.shown in
       record {
         above = f.greatest.none_above;
-        one = inl (w, (shown_day (held_after w.moment) w.pair k e (w.shows ∙ ap (At k) f.told), f.told));
+        one = inl (w, (shown_day (held_after w.moment) w.pair k e (w.shows ∙ ap (λ (e : Entry). Some (k, e)) f.told), f.told));
       })
       (λ (n : Unfilled serves cs k e). record { above = λ u w. absurd (n.none u w); one = inr (n.empty, n.none) })
 
@@ -66,7 +66,7 @@ silent : (serves : Serving) (cs : List Call) (k : ℕ) (u : Three) (w : ShownBy 
 unfolding held_after
 silent serves cs k u w e = by w.moment (subst (Part w.moment) e w.within) w.shows
   where
-    by : (m : List OnChannel) → Part m [] → shown_at (held_after m) w.pair ≡ At k (entry_of u) → ⊥
+    by : (m : List OnChannel) → Part m [] → shown_at (held_after m) w.pair ≡ Some (k, entry_of u) → ⊥
     by m (whole l) q = let z : ◌≡◌ {A = ℕ} 0 1 = cc in omega arith
 
 -- what a channel shows, another with the same calls shows

@@ -22,12 +22,8 @@ fn greater_of_each(first: [Entry; SLOTS], second: [Entry; SLOTS]) -> [Entry; SLO
     ensures { result ≡ (join_books (record { entries = first }) (record { entries = second })).entries }
 {
     let mut joined = first;
-    let mut i = 0;
-    while i < SLOTS {
-        let x = first[i];
-        let y = second[i];
-        joined[i] = greater_of(x, y);
-        i += 1;
+    for (i, e) in joined.iter_mut().enumerate() {
+        *e = greater_of(first[i], second[i]);
     }
     joined
 }

@@ -9,6 +9,8 @@ use borrow.Author.Tests.{eq-eqb, ne_eqb, eqb-true, not-false, ltb-true, ltb-fals
 use lib.Dec.{eqb, ltb, lit<}
 use lib.ListN.{length, get_or, get_or-append}
 use Rattle.strings.specs.Pick.{pick}
+use Rattle.sky.specs.declared.Unmade.{Unmade}
+use Rattle.std.specs.Prelude.{Result, Ok, Err, ⊤}
 use Rattle.strings.specs.Number.{number_of}
 use Rattle.strings.specs.Numbers.{refusal_paper, test, test_at, answer_of, Exactly}
 use Rattle.strings.specs.declared.Refusal.{Refusal}
@@ -20,8 +22,7 @@ use Rattle.superframe.specs.declared.Sky.{Sky}
 use Rattle.superframe.specs.Sky.{sky_string}
 use Rattle.superframe.specs.Refused.{wrong_slot, lowest_bad, Makes}
 use Rattle.superframe.proofs.Lowest.{refusals}
-use Rattle.sky.specs.declared.Made.{Made}
-use Rattle.sky.specs.declared.Made.TheVariants.{Done, OutOfOrder, Refused}
+use Rattle.sky.specs.declared.Unmade.TheVariants.{OutOfOrder, Refused}
 use Rattle.sky.specs.Mark.{mark, sequence, five_ones, mark_shortened}
 use Rattle.sky.specs.Line.{relative_bytes, symbol_of, sky_lines, heard_in, LineLaws}
 use Rattle.sky.specs.Calls.{made_paper, make_tests, MakesSky, MakeLaws}
@@ -81,20 +82,20 @@ module _ (sky : Sky) where
 
 -- ---- the answers, test by test
 module _ (sky : Sky) (out : List ℕ) where
-  pub no_room_lem : (length out ≡ 15000 → ⊥) → MakesSky sky out (Refused Room) out
+  pub no_room_lem : (length out ≡ 15000 → ⊥) → MakesSky sky out (Err (Refused Room)) out
   unfolding MakesSky
   no_room_lem h = refuses 11 (ap not (ne_eqb (length out) 15000 h))
 
   module _ (h : length out ≡ 15000) where
-    pub no_order : wrong_slot sky 24 ≡ true → MakesSky sky out OutOfOrder out
+    pub no_order : wrong_slot sky 24 ≡ true → MakesSky sky out (Err OutOfOrder) out
     unfolding MakesSky
     no_order e = goes_on 12 (ap not (eq-eqb (length out) 15000 h)) (refuses 17 e)
 
-    pub no_range : wrong_slot sky 24 ≡ false → (p : ℕ) → p ≡ lowest_bad sky 75 → (p ≡ 0 → ⊥) → MakesSky sky out (Refused (Range p)) out
+    pub no_range : wrong_slot sky 24 ≡ false → (p : ℕ) → p ≡ lowest_bad sky 75 → (p ≡ 0 → ⊥) → MakesSky sky out (Err (Refused (Range p))) out
     unfolding MakesSky
     no_range e p q z = rw q (goes_on 12 (ap not (eq-eqb (length out) 15000 h)) (goes_on 18 e (refuses 9 (ap not (ne_eqb (lowest_bad sky 75) 0 (λ w. z (q ∙ w)))))))
 
-    pub is_made : wrong_slot sky 24 ≡ false → lowest_bad sky 75 ≡ 0 → (out' : List ℕ) → out' ≡ sky_lines sky → MakesSky sky out Done out'
+    pub is_made : wrong_slot sky 24 ≡ false → lowest_bad sky 75 ≡ 0 → (out' : List ℕ) → out' ≡ sky_lines sky → MakesSky sky out (Ok tt) out'
     unfolding MakesSky
     is_made e z out' q =
         goes_on 12 (ap not (eq-eqb (length out) 15000 h)) (goes_on 18 e (goes_on 10 (ap not (eq-eqb (lowest_bad sky 75) 0 z)) (takes refl q)))
@@ -120,15 +121,15 @@ not_18 Slot = refl
 not_18 Owner = refl
 not_18 Card = refl
 
-abbrev made_of : List ℕ → Made
-made_of l = pick (eqb (get_or l 0 0) 0) Done (pick (eqb (get_or l 0 0) 18) OutOfOrder (Refused (refusal_of l)))
+abbrev made_of : List ℕ → Result ⊤ Unmade
+made_of l = pick (eqb (get_or l 0 0) 0) (Ok tt) (pick (eqb (get_or l 0 0) 18) (Err OutOfOrder) (Err (Refused (refusal_of l))))
 
-made_back : (r : Made) → made_of (made_paper r) ≡ r
-made_back Done = refl
-made_back OutOfOrder = refl
-made_back (Refused r) = rw ((refusal_known r).1, not_18 r) (ap Refused (refusal_known r).0)
+made_back : (r : Result ⊤ Unmade) → made_of (made_paper r) ≡ r
+made_back (Ok _) = refl
+made_back (Err OutOfOrder) = refl
+made_back (Err (Refused r)) = rw ((refusal_known r).1, not_18 r) (ap (λ (x : Refusal). Err (Refused x)) (refusal_known r).0)
 
-made_same : (r q : Made) → made_paper r ≡ made_paper q → r ≡ q
+made_same : (r q : Result ⊤ Unmade) → made_paper r ≡ made_paper q → r ≡ q
 made_same r q e = sym (made_back r) ∙ ap made_of e ∙ made_back q
 
 -- ---- EVERY MAKING
@@ -145,27 +146,27 @@ place_told false false true l p e = sym (ap (λ (l : List ℕ). get_or l 1 0) e)
 place_told false false false l p e = absurd (omega (arith, ap (λ (l : List ℕ). get_or l 0 0) e))
 
 module _ (sky : Sky) (out : List ℕ) where
-  once : (r q : Made) (out' out'' : List ℕ) → MakesSky sky out r out' → MakesSky sky out q out'' → (r ≡ q) × (out' ≡ out'')
+  once : (r q : Result ⊤ Unmade) (out' out'' : List ℕ) → MakesSky sky out r out' → MakesSky sky out q out'' → (r ≡ q) × (out' ≡ out'')
   unfolding MakesSky
   once r q out' out'' a b = let e = same_answer a b in (made_same r q e.0, e.1)
 
-  numbers : (r : Made) (out' : List ℕ) → MakesSky sky out r out' → Exactly (make_tests sky out) (made_paper r)
+  numbers : (r : Result ⊤ Unmade) (out' : List ℕ) → MakesSky sky out r out' → Exactly (make_tests sky out) (made_paper r)
   unfolding MakesSky
   numbers r out' a = exactly tt a
 
-  made : (out' : List ℕ) → MakesSky sky out Done out' → Makes sky × (out' ≡ sky_lines sky)
+  made : (out' : List ℕ) → MakesSky sky out (Ok tt) out' → Makes sky × (out' ≡ sky_lines sky)
   unfolding MakesSky
   made out' a =
       let w = none_first (not (eqb (length out) 15000)) (wrong_slot sky 24) (not (eqb (lowest_bad sky 75) 0)) 11 17 9 (first_given (make_tests sky out) [] a.answer) in
       ((refusals sky).makes w.0 (eqb-true _ 0 (not-false _ w.1)), taken_made [] a)
 
-  untouched : (r : Made) (out' : List ℕ) → (r ≡ Done → ⊥) → MakesSky sky out r out' → out' ≡ out
+  untouched : (r : Result ⊤ Unmade) (out' : List ℕ) → (r ≡ Ok tt → ⊥) → MakesSky sky out r out' → out' ≡ out
   unfolding MakesSky
-  untouched Done out' h a = absurd (h refl)
-  untouched OutOfOrder out' h a = a.output ∙ rw (first_given (make_tests sky out) [] a.answer)
-  untouched (Refused r) out' h a = refused_left r a
+  untouched (Ok _) out' h a = absurd (h refl)
+  untouched (Err OutOfOrder) out' h a = a.output ∙ rw (first_given (make_tests sky out) [] a.answer)
+  untouched (Err (Refused r)) out' h a = refused_left r a
 
-  never_75 : (out' : List ℕ) → MakesSky sky out (Refused (Range 75)) out' → ⊥
+  never_75 : (out' : List ℕ) → MakesSky sky out (Err (Refused (Range 75))) out' → ⊥
   unfolding MakesSky
   never_75 out' a = (refusals sky).never_75 (place_told (not (eqb (length out) 15000)) (wrong_slot sky 24) (not (eqb (lowest_bad sky 75) 0)) (lowest_bad sky 75) 75 a.answer)
 

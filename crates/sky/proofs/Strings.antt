@@ -9,8 +9,8 @@ use borrow.Author.Tests.{ne_eqb}
 use lib.Dec.{eqb, lit≤}
 use lib.ListN.{length, get_or}
 use Rattle.strings.specs.Number.{bit_of, number_from_bits, bytes_of, bytes_of_string, number_of}
-use Rattle.strings.specs.declared.Written.{Written}
-use Rattle.strings.specs.declared.Written.TheVariants.{Done}
+use Rattle.strings.specs.declared.Refusal.{Refusal}
+use Rattle.std.specs.Prelude.{Result, Ok, ⊤}
 use Rattle.strings.proofs.Digits.{bit_lt, bits_same, from_lt, bit_from}
 use Rattle.strings.proofs.Value.{Bytes, string_length, string_number_lem, bit_at}
 use Rattle.strings.proofs.Shape.{string_shaped}
@@ -47,14 +47,14 @@ string_small sky z i a b =
     record_small (string_number i) (record_in sky (frame_at i) (string_number i)) (omega arith) (words_good sky i a b (record_in sky (frame_at i) (string_number i)) refl (none_told sky z i a b))
 
 -- ---- it is sent
-pub sent_as : (n : ℕ) → n < 2 ^ 84 → (s out out' : List ℕ) (w : Written) → length out ≡ 11 → s ≡ bytes_of_string n → WritesRelative s out w out' → out' ≡ relative_bytes n
+pub sent_as : (n : ℕ) → n < 2 ^ 84 → (s out out' : List ℕ) (w : Result ⊤ Refusal) → length out ≡ 11 → s ≡ bytes_of_string n → WritesRelative s out w out' → out' ≡ relative_bytes n
 unfolding relative_bytes
 sent_as n h s out out' w long is a =
     let l : n < 2 ^ 85 = omega arith in
     let e = string_number_lem n l in
     let idle : bit_of n 85 ≡ 0 = omega arith in
     let d = writes (bytes_of_string n) out long (string_shaped n l) (ap (λ (x : ℕ). eqb (bit_of x 85) 1) e ∙ ne_eqb (bit_of n 85) 1 (λ q. omega (arith, q, idle))) in
-    (writes_once (bytes_of_string n) out w out' Done _ (subst (λ (x : List ℕ). WritesRelative x out w out') is a) d).1 ∙ ap (λ (x : ℕ). bytes_of_string (write_relative x)) e
+    (writes_once (bytes_of_string n) out w out' (Ok tt) _ (subst (λ (x : List ℕ). WritesRelative x out w out') is a) d).1 ∙ ap (λ (x : ℕ). bytes_of_string (write_relative x)) e
 
 -- ---- and read back
 bytes_small : (n x : ℕ) → Bytes (bytes_of n x)

@@ -20,12 +20,10 @@ fn write_halves(s: &[u8], out: &mut [u8], at: usize)
     requires { (length s.now ≡ 11) × (at + 170 ≤ length out.old) }
     ensures { Front out.old (take at out.old ++ halves s.now 85) out.new (at + 170) }
 {
-    let mut j = 0;
-    while j < 85 {
+    for j in 0..85 {
         let b = symbol(s, j);
         out[at + 2 * j] = b;
         out[at + 2 * j + 1] = 1 - b;
-        j += 1;
     }
 }
 

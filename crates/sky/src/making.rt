@@ -5,27 +5,27 @@ ghost use Rattle.superframe.specs.Refused.{lowest_bad};
 ghost use Rattle.sky.specs.Line.{relative_bytes, sky_lines};
 ghost use Rattle.sky.specs.Calls.{MakesSky};
 
-use crate::Made;
+use crate::Unmade;
 use crate::line::write_line;
 use strings::Refusal;
 use superframe::{Sky, in_order, lowest_bad, string_in};
 
 // Writes the 15,000 line symbols of a sky, each 0 or 1.
-pub fn make_sky(sky: Sky, out: &mut [u8]) -> Made
+pub fn make_sky(sky: Sky, out: &mut [u8]) -> Result<(), Unmade>
     ensures { MakesSky sky out.old result out.new }
 {
     if out.len() != 15000 {
-        return Made::Refused(Refusal::Room);
+        return Err(Unmade::Refused(Refusal::Room));
     }
     if !in_order(sky) {
-        return Made::OutOfOrder;
+        return Err(Unmade::OutOfOrder);
     }
     let place = lowest_bad(sky);
     if place != 0 {
-        return Made::Refused(Refusal::Range(place as u8));
+        return Err(Unmade::Refused(Refusal::Range(place as u8)));
     }
     write_sky(sky, out);
-    Made::Done
+    Ok(())
 }
 
 // String i, 1 to 75, in relative form.
@@ -35,7 +35,7 @@ fn relative_in(sky: Sky, i: usize) -> [u8; 11]
 {
     let s = string_in(sky, i);
     let mut out = [0u8; 11];
-    relative::to_relative(&s, &mut out);
+    let _ = relative::to_relative(&s, &mut out);
     out
 }
 
@@ -44,10 +44,8 @@ fn write_sky(sky: Sky, out: &mut [u8])
     requires { (lowest_bad sky 75 ≡ 0) × (length out.old ≡ 15000) }
     ensures { out.new ≡ sky_lines sky }
 {
-    let mut i = 0;
-    while i < 75 {
+    for i in 0..75 {
         let s = relative_in(sky, i + 1);
         write_line(&s, out, 200 * i);
-        i += 1;
     }
 }

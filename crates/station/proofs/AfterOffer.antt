@@ -7,11 +7,11 @@ use mathlib.Core.List.{List}
 use mathlib.Core.Path.{◌≡◌, sym, ap, ap₂, ◌∙◌}
 use lib.ListN.{set}
 use Rattle.strings.specs.Pick.{pick}
+use Rattle.std.specs.Prelude.{Ok, Err}
 use Rattle.strings.specs.declared.Refusal.{Refusal}
 use Rattle.book.specs.declared.Book.{Book}
 use Rattle.summary.specs.declared.Summary.{Summary}
 use Rattle.channel.specs.declared.Row.{Row}
-use Rattle.channel.specs.declared.Answer.TheVariants.{Refused}
 use Rattle.channel.specs.declared.Offered.{Offered}
 use Rattle.channel.specs.Row.{frame_of}
 use Rattle.channel.specs.Offers.{offer_tests, Offers, is_stored}
@@ -20,7 +20,6 @@ use Rattle.channel.proofs.HeldFrame.{offered_is, said_by_lem}
 use Rattle.channel.proofs.OnceOnly.{stored_said}
 use Rattle.station.specs.declared.Station.{Station}
 use Rattle.station.specs.declared.Stepped.{Stepped}
-use Rattle.station.specs.declared.Gate.TheVariants.{Open, Shut}
 use Rattle.station.specs.Station.{row_at, held_at, is_served, Enters, told_in, book_after, entry_changes, corrected, station_after, OffersTo}
 use Rattle.station.proofs.Served.{open_says, shut_says_lem, entered}
 
@@ -30,7 +29,7 @@ same_station st st' rows book summary =
     ∙ ap (λ (z : Summary). record { rows = st'.rows; book = st'.book; summary = z }) summary
 
 -- a call that is not let in
-pub offer_shut : (st : Station) (card c epoch : ℕ) (s : List ℕ) (why : Refusal) → Enters card c (Shut why) → OffersTo st card c epoch s (record { station = st; answer = Refused why })
+pub offer_shut : (st : Station) (card c epoch : ℕ) (s : List ℕ) (why : Refusal) → Enters card c (Err why) → OffersTo st card c epoch s (record { station = st; answer = Err why })
 unfolding station_after
 offer_shut st card c epoch s why n =
     record { answer = n.1 ∙ sym (shut_says_lem card c (offer_tests (held_at st c) epoch s) (told_in st c epoch s) n.0); station = rw n.0 }
@@ -59,5 +58,5 @@ module _ (st : Station) (card c epoch : ℕ) (s : List ℕ) (o : Offered) (b : B
       }
 
 -- at the row where the call entered
-pub offer_open : (st : Station) (card c i epoch : ℕ) (s : List ℕ) (r : Stepped) → Enters card c (Open i) → (is_served card i ≡ true → OffersTo st card i epoch s r) → OffersTo st card c epoch s r
+pub offer_open : (st : Station) (card c i epoch : ℕ) (s : List ℕ) (r : Stepped) → Enters card c (Ok i) → (is_served card i ≡ true → OffersTo st card i epoch s r) → OffersTo st card c epoch s r
 offer_open st card c i epoch s r n f = entered (λ (k : ℕ). OffersTo st card k epoch s r) card n f

@@ -10,11 +10,10 @@ use native.Mathlib.Omega.{arith}
 use borrow.Author.Tests.{eq-eqb, eqb-true}
 use lib.Dec.{eqb}
 use Rattle.strings.specs.Pick.{pick, is_one_of}
+use Rattle.std.specs.Prelude.{Option, Some, None}
 use Rattle.strings.specs.Numbers.{first_of}
 use Rattle.book.specs.declared.Entry.{Entry}
 use Rattle.book.specs.declared.Book.{Book}
-use Rattle.book.specs.declared.Shown.{Shown}
-use Rattle.book.specs.declared.Shown.TheVariants.{Nothing, At}
 use Rattle.book.specs.Entry.{Three, meaning, entry_of, blank}
 use Rattle.book.specs.Shows.{shown_by}
 use Rattle.book.specs.Book.{slots, in_slot}
@@ -38,13 +37,13 @@ use Rattle.station.proofs.Holding.{Dated, Holding, holding_same, InShows, Right,
 
 -- ---- what a frame shows
 -- the slot and the entry of what is shown
-abbrev slot_of : Shown → ℕ
-slot_of Nothing = 0
-slot_of (At k e) = k
+abbrev slot_of : Option (ℕ × Entry) → ℕ
+slot_of None = 0
+slot_of (Some (k, e)) = k
 
-abbrev entry_in : Shown → Entry
-entry_in Nothing = blank
-entry_in (At k e) = e
+abbrev entry_in : Option (ℕ × Entry) → Entry
+entry_in None = blank
+entry_in (Some (k, e)) = e
 
 -- at a pair: for a slot of the book, with a day, and told by its three numbers
 record Sound (k : ℕ) (e : Entry) : Type 0 where
@@ -53,10 +52,10 @@ record Sound (k : ℕ) (e : Entry) : Type 0 where
   day : 1 ≤ e.day
   told : entry_of (meaning e) ≡ e
 
-shown_sound : (f : Frame) (p k : ℕ) (e : Entry) → shown_at f p ≡ At k e → Sound k e
+shown_sound : (f : Frame) (p k : ℕ) (e : Entry) → shown_at f p ≡ Some (k, e) → Sound k e
 shown_sound f p k e = by (has_pair f p)
   where
-    by : (t : Bool) → pick t (shown_by (f.text 5) (f.text p) (f.text (p + 1))) Nothing ≡ At k e → Sound k e
+    by : (t : Bool) → pick t (shown_by (f.text 5) (f.text p) (f.text (p + 1))) None ≡ Some (k, e) → Sound k e
     by true q =
         let r = shown_fits (f.text 5) (f.text p) (f.text (p + 1)) k e q in
         record { least = r.slot_least; most = r.slot_most; day = r.day_least; told = entry_meaning e r.fits }
@@ -65,34 +64,34 @@ shown_sound f p k e = by (has_pair f p)
 right_at : (f : Frame) (p : ℕ) → Right (shown_at f p)
 right_at f p = by (shown_at f p) refl
   where
-    by : (s : Shown) → shown_at f p ≡ s → Right s
-    by Nothing q = tt
-    by (At k e) q = let r = shown_sound f p k e q in (r.least, (r.most, (r.day, r.told)))
+    by : (s : Option (ℕ × Entry)) → shown_at f p ≡ s → Right s
+    by None q = tt
+    by (Some (k, e)) q = let r = shown_sound f p k e q in (r.least, (r.most, (r.day, r.told)))
 
 all_right : (f : Frame) → AllRight (shows_of f)
 all_right f = (right_at f 6, (right_at f 8, (right_at f 10, (right_at f 12, (right_at f 14, tt)))))
 
 -- at one of some pairs, and so among all that they show
-shows_in : (f : Frame) (qs : List ℕ) (p k : ℕ) (e : Entry) → is_one_of qs p ≡ true → shown_at f p ≡ At k e → InShows k (meaning e) (map (shown_at f) qs)
+shows_in : (f : Frame) (qs : List ℕ) (p k : ℕ) (e : Entry) → is_one_of qs p ≡ true → shown_at f p ≡ Some (k, e) → InShows k (meaning e) (map (shown_at f) qs)
 shows_in f [] p k e n q = absurd (false≢true n)
 shows_in f (x ∷ qs) p k e n q = by (eqb p x) (shown_at f x) refl refl n (λ m. shows_in f qs p k e m q)
   where
-    by : (t : Bool) (s : Shown) → eqb p x ≡ t → shown_at f x ≡ s → (t || is_one_of qs p) ≡ true
+    by : (t : Bool) (s : Option (ℕ × Entry)) → eqb p x ≡ t → shown_at f x ≡ s → (t || is_one_of qs p) ≡ true
         → (is_one_of qs p ≡ true → InShows k (meaning e) (map (shown_at f) qs)) → InShows k (meaning e) (s ∷ map (shown_at f) qs)
-    by true Nothing a b m ih =
-        let w : Nothing ≡ At k e = sym b ∙ ap (shown_at f) (sym (eqb-true p x a)) ∙ q in
+    by true None a b m ih =
+        let w : ◌≡◌ {A = Option (ℕ × Entry)} None (Some (k, e)) = sym b ∙ ap (shown_at f) (sym (eqb-true p x a)) ∙ q in
         let z : ◌≡◌ {A = ℕ} 0 1 = cc in absurd (omega arith)
-    by true (At j d) a b m ih =
-        let w : At j d ≡ At k e = sym b ∙ ap (shown_at f) (sym (eqb-true p x a)) ∙ q in
-        inl (ap slot_of w, sym (ap (λ (s : Shown). meaning (entry_in s)) w))
-    by false Nothing a b m ih = ih m
-    by false (At j d) a b m ih = inr (ih m)
+    by true (Some (j, d)) a b m ih =
+        let w : Some (j, d) ≡ Some (k, e) = sym b ∙ ap (shown_at f) (sym (eqb-true p x a)) ∙ q in
+        inl (ap slot_of w, sym (ap (λ (s : Option (ℕ × Entry)). meaning (entry_in s)) w))
+    by false None a b m ih = ih m
+    by false (Some (j, d)) a b m ih = inr (ih m)
 
 -- and back: a pair that shows it
 record AtPair (f : Frame) (qs : List ℕ) (k : ℕ) (u : Three) : Type 0 where
   pair : ℕ
   named : is_one_of qs pair ≡ true
-  shows : shown_at f pair ≡ At k (entry_of u)
+  shows : shown_at f pair ≡ Some (k, entry_of u)
 
 in_pair : (f : Frame) (qs : List ℕ) (k : ℕ) (u : Three) → InShows k u (map (shown_at f) qs) → AtPair f qs k u
 in_pair f [] k u i = absurd i
@@ -105,13 +104,13 @@ in_pair f (x ∷ qs) k u i = by (shown_at f x) refl i (in_pair f qs k u)
     more : AtPair f qs k u → AtPair f (x ∷ qs) k u
     more a = record { pair = a.pair; named = later (eqb a.pair x) (is_one_of qs a.pair) a.named; shows = a.shows }
 
-    by : (s : Shown) → shown_at f x ≡ s → InShows k u (s ∷ map (shown_at f) qs) → (InShows k u (map (shown_at f) qs) → AtPair f qs k u) → AtPair f (x ∷ qs) k u
-    by Nothing q i ih = more (ih i)
-    by (At j d) q i ih =
+    by : (s : Option (ℕ × Entry)) → shown_at f x ≡ s → InShows k u (s ∷ map (shown_at f) qs) → (InShows k u (map (shown_at f) qs) → AtPair f qs k u) → AtPair f (x ∷ qs) k u
+    by None q i ih = more (ih i)
+    by (Some (j, d)) q i ih =
         ⊎_elim
         (λ (m : (j ≡ k) × (u ≡ meaning d)).
         let told : d ≡ entry_of u = sym (ap entry_of m.1 ∙ (shown_sound f x j d q).told) in
-        record { pair = x; named = ap (λ (t : Bool). t || is_one_of qs x) (eq-eqb x x refl); shows = q ∙ ap₂ At m.0 told })
+        record { pair = x; named = ap (λ (t : Bool). t || is_one_of qs x) (eq-eqb x x refl); shows = q ∙ ap₂ (λ (y : ℕ) (e : Entry). Some (y, e)) m.0 told })
         (λ (r : InShows k u (map (shown_at f) qs)). more (ih r)) i
 
 -- ---- what is shown after one call more: what was shown before, and what the channel's frame then shows
@@ -247,7 +246,7 @@ none_shown : (k : ℕ) (u : Three) → ShownIn [] k u → ⊥
 unfolding calls_by held_after
 none_shown k u w = by w.moment w.within w.shows
   where
-    by : (m : List OnChannel) → Part m [] → shown_at (held_after m) w.pair ≡ At k (entry_of u) → ⊥
+    by : (m : List OnChannel) → Part m [] → shown_at (held_after m) w.pair ≡ Some (k, entry_of u) → ⊥
     by m (whole cs) q = let z : ◌≡◌ {A = ℕ} 0 1 = cc in omega arith
 
 fresh_holds : BookHolds [] fresh_station

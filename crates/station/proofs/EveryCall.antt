@@ -11,19 +11,21 @@ use borrow.Author.Tests.{ne_eqb}
 use lib.Dec.{eqb}
 use lib.IntN.{ℤ}
 use Rattle.strings.specs.declared.Refusal.TheVariants.{Range}
-use Rattle.strings.specs.declared.Checked.{Checked}
-use Rattle.strings.specs.declared.Checked.TheVariants.{Taken, Refused}
-use Rattle.strings.specs.declared.Written.{Written}
-use Rattle.strings.specs.declared.Written.TheVariants.{Done, Refused as NotWritten}
-use Rattle.strings.specs.declared.hamming.Ruling.{Ruling}
-use Rattle.strings.specs.declared.hamming.Ruling.TheVariants.{Sound, Damaged}
+use Rattle.station.specs.declared.Health.{Health}
+use Rattle.summary.specs.declared.Summary.{Summary}
+use Rattle.tallies.specs.declared.Tallies.{Tallies}
+use Rattle.book.specs.declared.Entry.{Entry}
+use Rattle.records.specs.declared.named.ImmediateWords.{ImmediateWords}
+use Rattle.relative.specs.declared.Polarity.{Polarity}
+use Rattle.strings.specs.declared.hamming.Damage.{Damage}
+use Rattle.strings.specs.declared.Refusal.{Refusal}
+use Rattle.strings.specs.declared.Verdict.{Verdict}
+use Rattle.std.specs.Prelude.{Result, Ok, Err, ⊤}
 use Rattle.strings.specs.Number.{number_of, bytes_of_string}
 use Rattle.strings.specs.Hamming.{ruling, is_damaged, mended}
 use Rattle.strings.specs.Numbers.{test, first_of, left_by, answer_of}
 use Rattle.strings.specs.Calls.{no_room, checked_paper, sound_tests, string_tests, check_tests, verdict_told, Checks}
 use Rattle.strings.proofs.CheckRule.{check_once, check_first, check_numbers}
-use Rattle.relative.specs.declared.Decoded.{Decoded}
-use Rattle.relative.specs.declared.Decoded.TheVariants.{Read as Decode, Refused as NotDecoded}
 use Rattle.relative.specs.Relative.{read_relative, write_relative}
 use Rattle.relative.specs.Polarity.{first_symbol, polarity_of}
 use Rattle.relative.specs.Calls.{reading_tests, ReadsRelative, writing_tests, WritesRelative}
@@ -31,8 +33,6 @@ use Rattle.relative.proofs.RelativeCode.{polarity_told, reads_once, writes_once,
 use Rattle.records.specs.declared.kinds.Kind.{Kind}
 use Rattle.records.specs.declared.named.Record.{Record}
 use Rattle.records.specs.Records.{kind_of, list_of, record_of}
-use Rattle.words.specs.declared.reading.Reading.{Reading}
-use Rattle.words.specs.declared.reading.Reading.TheVariants.{Read, Refused as NotRead}
 use Rattle.layout.specs.Layout.{layout, kind_number, of_kind}
 use Rattle.words.specs.Values.{values_of, first_bad}
 use Rattle.words.specs.Calls.{number_in, range_test, read_tests, reading_words, Reads, write_tests, string_of, Writes}
@@ -45,16 +45,6 @@ use Rattle.book.specs.Book.{in_slot}
 use Rattle.station.specs.declared.Station.{Station}
 use Rattle.station.specs.declared.Stepped.{Stepped}
 use Rattle.station.specs.declared.Emptied.{Emptied}
-use Rattle.station.specs.declared.RecordFound.{RecordFound}
-use Rattle.station.specs.declared.RecordFound.TheVariants.{Found as FoundRecord, Refused as NoRecord}
-use Rattle.station.specs.declared.EntryFound.{EntryFound}
-use Rattle.station.specs.declared.EntryFound.TheVariants.{Found as FoundEntry, Refused as NoEntry}
-use Rattle.station.specs.declared.TalliesFound.{TalliesFound}
-use Rattle.station.specs.declared.TalliesFound.TheVariants.{Found as FoundTallies, Refused as NoTallies}
-use Rattle.station.specs.declared.SummaryFound.{SummaryFound}
-use Rattle.station.specs.declared.SummaryFound.TheVariants.{Found as FoundSummary, Refused as NoSummary}
-use Rattle.station.specs.declared.HealthFound.{HealthFound}
-use Rattle.station.specs.declared.HealthFound.TheVariants.{Found as FoundHealth, Refused as NoHealth}
 use Rattle.station.specs.Station.{row_at, card_test, gate_tests, station_after, OffersTo, station_reset, Resets}
 use Rattle.station.specs.Queries.{kept_at, record_tests, FindsRecord, entry_tests, three_numbers, FindsEntry, all_counts, FindsTallies, summary_numbers, FindsSummary, health_number, health_by, FindsHealth}
 use Rattle.station.specs.Demand1.{OneAnswer, StationAnswers, StringsAnswer, StationNumbers, StringNumbers, NoOutputByte}
@@ -78,57 +68,57 @@ module _ (st : Station) where
   reset_one : (card c : ℕ) → OneAnswer Emptied (Resets st card c)
   reset_one card c = one Emptied (Resets st card c) (resets_once st card c) (record { station = station_reset st card c; answer = reset_answer card c }) (reset_answers st card c)
 
-  record_one : (card c : ℕ) → OneAnswer RecordFound (FindsRecord st card c)
+  record_one : (card c : ℕ) → OneAnswer (Result (ImmediateWords × ℕ) Refusal) (FindsRecord st card c)
   record_one card c =
       let ts = record_tests st card c in
       ⊎_elim
       (λ (z : first_of ts ≡ 0).
-      one RecordFound (FindsRecord st card c) (records_once st card c) (FoundRecord (immediate_of (kept_at st c).strings) (kept_at st c).start)
-      (record { answer = taken_says ts [] z; words = λ w start q. let o = one_record q in (sym o.0, sym o.1) }))
+      one (Result (ImmediateWords × ℕ) Refusal) (FindsRecord st card c) (records_once st card c) (Ok (immediate_of (kept_at st c).strings, (kept_at st c).start))
+      (record { answer = taken_says ts [] z; words = λ w start q. (sym (one_record q).0, sym (one_record q).1) }))
       (λ (f : Fitting ts).
-      one RecordFound (FindsRecord st card c) (records_once st card c) (NoRecord f.refusal) (record { answer = f.says []; words = λ w start q. no_record q }))
+      one (Result (ImmediateWords × ℕ) Refusal) (FindsRecord st card c) (records_once st card c) (Err f.refusal) (record { answer = f.says []; words = λ w start q. no_record q }))
       (settles ts tt)
 
-  entry_one : (card slot : ℕ) → OneAnswer EntryFound (FindsEntry st card slot)
+  entry_one : (card slot : ℕ) → OneAnswer (Result Entry Refusal) (FindsEntry st card slot)
   entry_one card slot =
       let ts = entry_tests st card slot in
       let e = in_slot st.book slot in
       ⊎_elim
       (λ (z : first_of ts ≡ 0).
-      one EntryFound (FindsEntry st card slot) (entries_once st card slot) (FoundEntry e) (record { answer = taken_says ts (three_numbers (meaning e)) z; entry = λ d q. sym (one_entry q) }))
+      one (Result Entry Refusal) (FindsEntry st card slot) (entries_once st card slot) (Ok e) (record { answer = taken_says ts (three_numbers (meaning e)) z; entry = λ d q. sym (one_entry q) }))
       (λ (f : Fitting ts).
-      one EntryFound (FindsEntry st card slot) (entries_once st card slot) (NoEntry f.refusal)
+      one (Result Entry Refusal) (FindsEntry st card slot) (entries_once st card slot) (Err f.refusal)
       (record { answer = f.says (three_numbers (meaning e)); entry = λ d q. no_entry q }))
       (settles ts tt)
 
-  tallies_one : (card c : ℕ) → OneAnswer TalliesFound (FindsTallies st card c)
+  tallies_one : (card c : ℕ) → OneAnswer (Result Tallies Refusal) (FindsTallies st card c)
   unfolding FindsTallies
   tallies_one card c =
       let ts = gate_tests card c in
       let t = (row_at st c).tallies in
       ⊎_elim
-      (λ (z : first_of ts ≡ 0). one TalliesFound (FindsTallies st card c) (tallies_once st card c) (FoundTallies t) (taken_says ts (all_counts t) z))
-      (λ (f : Fitting ts). one TalliesFound (FindsTallies st card c) (tallies_once st card c) (NoTallies f.refusal) (f.says (all_counts t)))
+      (λ (z : first_of ts ≡ 0). one (Result Tallies Refusal) (FindsTallies st card c) (tallies_once st card c) (Ok t) (taken_says ts (all_counts t) z))
+      (λ (f : Fitting ts). one (Result Tallies Refusal) (FindsTallies st card c) (tallies_once st card c) (Err f.refusal) (f.says (all_counts t)))
       (settles ts tt)
 
-  summary_one : (card : ℕ) → OneAnswer SummaryFound (FindsSummary st card)
+  summary_one : (card : ℕ) → OneAnswer (Result Summary Refusal) (FindsSummary st card)
   unfolding FindsSummary
   summary_one card =
       let ts = card_test card ∷ [] in
       let s = st.summary in
       ⊎_elim
-      (λ (z : first_of ts ≡ 0). one SummaryFound (FindsSummary st card) (summaries_once st card) (FoundSummary s) (taken_says ts (summary_numbers s) z))
-      (λ (f : Fitting ts). one SummaryFound (FindsSummary st card) (summaries_once st card) (NoSummary f.refusal) (f.says (summary_numbers s)))
+      (λ (z : first_of ts ≡ 0). one (Result Summary Refusal) (FindsSummary st card) (summaries_once st card) (Ok s) (taken_says ts (summary_numbers s) z))
+      (λ (f : Fitting ts). one (Result Summary Refusal) (FindsSummary st card) (summaries_once st card) (Err f.refusal) (f.says (summary_numbers s)))
       (settles ts tt)
 
-  health_one : (card c : ℕ) → OneAnswer HealthFound (FindsHealth st card c)
+  health_one : (card c : ℕ) → OneAnswer (Result Health Refusal) (FindsHealth st card c)
   unfolding FindsHealth
   health_one card c =
       let ts = gate_tests card c in
       let h = health_by (kept_at st c) st.book in
       ⊎_elim
-      (λ (z : first_of ts ≡ 0). one HealthFound (FindsHealth st card c) (health_once st card c) (FoundHealth h) (taken_says ts (health_number h ∷ []) z))
-      (λ (f : Fitting ts). one HealthFound (FindsHealth st card c) (health_once st card c) (NoHealth f.refusal) (f.says (health_number h ∷ [])))
+      (λ (z : first_of ts ≡ 0). one (Result Health Refusal) (FindsHealth st card c) (health_once st card c) (Ok h) (taken_says ts (health_number h ∷ []) z))
+      (λ (f : Fitting ts). one (Result Health Refusal) (FindsHealth st card c) (health_once st card c) (Err f.refusal) (f.says (health_number h ∷ [])))
       (settles ts tt)
 
   -- EVERY CALL ANSWERS, of any station
@@ -155,47 +145,47 @@ pair e = ap₂ (λ x y. (x, y)) e.0 e.1
 
 module _ (s out : List ℕ) where
   -- a string that no test of the check fits has a verdict
-  verdict_there : first_of (check_tests s out) ≡ 0 → (r : Checked) × (checked_paper r ≡ 0 ∷ verdict_told (ruling (number_of s)))
+  verdict_there : first_of (check_tests s out) ≡ 0 → (r : Result Verdict Refusal) × (checked_paper r ≡ 0 ∷ verdict_told (ruling (number_of s)))
   verdict_there z = by (ruling (number_of s)) refl
     where
-      by : (u : Ruling) → ruling (number_of s) ≡ u → (r : Checked) × (checked_paper r ≡ 0 ∷ verdict_told u)
-      by (Sound v) q = (Taken v, refl)
-      by (Damaged d) q = absurd (true≢false (sym (ap is_damaged q) ∙ (check_first s out z).1.sound))
+      by : (u : Result Verdict Damage) → ruling (number_of s) ≡ u → (r : Result Verdict Refusal) × (checked_paper r ≡ 0 ∷ verdict_told u)
+      by (Ok v) q = (Ok v, refl)
+      by (Err d) q = absurd (true≢false (sym (ap is_damaged q) ∙ (check_first s out z).1.sound))
 
-  check_one : OneAnswer (Checked × List ℕ) (λ r. Checks s out r.0 r.1)
+  check_one : OneAnswer (Result Verdict Refusal × List ℕ) (λ r. Checks s out r.0 r.1)
   unfolding Checks sound_tests
   check_one =
       let ts = check_tests s out in
       let told = verdict_told (ruling (number_of s)) in
       let left = left_by (first_of ts) (bytes_of_string (mended (number_of s))) out in
-      let so : (r : Checked) → checked_paper r ≡ answer_of ts told → OneAnswer (Checked × List ℕ) (λ r. Checks s out r.0 r.1) =
-      λ r e. one (Checked × List ℕ) (λ r. Checks s out r.0 r.1) (λ r q a b. pair (check_once s out r.0 q.0 r.1 q.1 a b)) (r, left) (record { answer = e; output = refl })
+      let so : (r : Result Verdict Refusal) → checked_paper r ≡ answer_of ts told → OneAnswer (Result Verdict Refusal × List ℕ) (λ r. Checks s out r.0 r.1) =
+      λ r e. one (Result Verdict Refusal × List ℕ) (λ r. Checks s out r.0 r.1) (λ r q a b. pair (check_once s out r.0 q.0 r.1 q.1 a b)) (r, left) (record { answer = e; output = refl })
       in
-      ⊎_elim (λ (z : first_of ts ≡ 0). let v = verdict_there z in so v.0 (v.1 ∙ taken_says ts told z)) (λ (f : Fitting ts). so (Refused f.refusal) (f.says told))
+      ⊎_elim (λ (z : first_of ts ≡ 0). let v = verdict_there z in so v.0 (v.1 ∙ taken_says ts told z)) (λ (f : Fitting ts). so (Err f.refusal) (f.says told))
       (settles ts tt)
 
-  reading_one : OneAnswer (Decoded × List ℕ) (λ r. ReadsRelative s out r.0 r.1)
+  reading_one : OneAnswer (Result Polarity Refusal × List ℕ) (λ r. ReadsRelative s out r.0 r.1)
   unfolding ReadsRelative
   reading_one =
       let ts = reading_tests s out in
       let left = left_by (first_of ts) (bytes_of_string (read_relative (number_of s))) out in
       let told = first_symbol (number_of s) ∷ [] in
-      let so : (r : Decoded) → _ → OneAnswer (Decoded × List ℕ) (λ r. ReadsRelative s out r.0 r.1) =
-      λ r e. one (Decoded × List ℕ) (λ r. ReadsRelative s out r.0 r.1) (λ r q a b. pair (reads_once s out r.0 r.1 q.0 q.1 a b)) (r, left) (record { answer = e; output = refl })
+      let so : (r : Result Polarity Refusal) → _ → OneAnswer (Result Polarity Refusal × List ℕ) (λ r. ReadsRelative s out r.0 r.1) =
+      λ r e. one (Result Polarity Refusal × List ℕ) (λ r. ReadsRelative s out r.0 r.1) (λ r q a b. pair (reads_once s out r.0 r.1 q.0 q.1 a b)) (r, left) (record { answer = e; output = refl })
       in
       ⊎_elim
-      (λ (z : first_of ts ≡ 0). so (Decode (polarity_of (number_of s))) (ap (λ (b : ℕ). 0 ∷ b ∷ []) (polarity_told (number_of s)) ∙ taken_says ts told z))
-      (λ (f : Fitting ts). so (NotDecoded f.refusal) (f.says told)) (settles ts tt)
+      (λ (z : first_of ts ≡ 0). so (Ok (polarity_of (number_of s))) (ap (λ (b : ℕ). 0 ∷ b ∷ []) (polarity_told (number_of s)) ∙ taken_says ts told z))
+      (λ (f : Fitting ts). so (Err f.refusal) (f.says told)) (settles ts tt)
 
-  sending_one : OneAnswer (Written × List ℕ) (λ r. WritesRelative s out r.0 r.1)
+  sending_one : OneAnswer (Result ⊤ Refusal × List ℕ) (λ r. WritesRelative s out r.0 r.1)
   unfolding WritesRelative
   sending_one =
       let ts = writing_tests s out in
       let left = left_by (first_of ts) (bytes_of_string (write_relative (number_of s))) out in
-      let so : (r : Written) → _ → OneAnswer (Written × List ℕ) (λ r. WritesRelative s out r.0 r.1) =
-      λ r e. one (Written × List ℕ) (λ r. WritesRelative s out r.0 r.1) (λ r q a b. pair (writes_once s out r.0 r.1 q.0 q.1 a b)) (r, left) (record { answer = e; output = refl })
+      let so : (r : Result ⊤ Refusal) → _ → OneAnswer (Result ⊤ Refusal × List ℕ) (λ r. WritesRelative s out r.0 r.1) =
+      λ r e. one (Result ⊤ Refusal × List ℕ) (λ r. WritesRelative s out r.0 r.1) (λ r q a b. pair (writes_once s out r.0 r.1 q.0 q.1 a b)) (r, left) (record { answer = e; output = refl })
       in
-      ⊎_elim (λ (z : first_of ts ≡ 0). so Done (taken_says ts [] z)) (λ (f : Fitting ts). so (NotWritten f.refusal) (f.says []))
+      ⊎_elim (λ (z : first_of ts ≡ 0). so (Ok tt) (taken_says ts [] z)) (λ (f : Fitting ts). so (Err f.refusal) (f.says []))
       (settles ts tt)
 
 -- RANGE says its place
@@ -204,7 +194,7 @@ range_settles zs k =
     let p = first_bad (layout k) zs in
     settles_first (Range p) 10 (p ∷ []) (not (eqb p 0)) [] refl (inl refl)
 
-read_one : (s : List ℕ) (k : Kind) → OneAnswer Reading (Reads s k)
+read_one : (s : List ℕ) (k : Kind) → OneAnswer (Result (ℕ × Record) Refusal) (Reads s k)
 unfolding Reads reading_words sound_tests
 read_one s k =
     let n = mended (number_of s) in
@@ -212,24 +202,24 @@ read_one s k =
     let zs = values_of n (layout k) in
     ⊎_elim
     (λ (z : first_of ts ≡ 0).
-    one Reading (Reads s k) (read_once s k) (Read (number_in n) (record_of k zs))
+    one (Result (ℕ × Record) Refusal) (Reads s k) (read_once s k) (Ok (number_in n, record_of k zs))
     (record {
       answer = ap (λ (q : Kind). 0 ∷ number_in n ∷ kind_number q ∷ []) (record_kind k zs) ∙ taken_says ts (number_in n ∷ kind_number k ∷ []) z;
       words = rw z (record_values k n);
     }))
     (λ (f : Fitting ts).
-    one Reading (Reads s k) (read_once s k) (NotRead f.refusal) (record { answer = f.says (number_in n ∷ kind_number k ∷ []); words = rw (ne_eqb (first_of ts) 0 (λ e. omega (arith, f.first, e))) }))
+    one (Result (ℕ × Record) Refusal) (Reads s k) (read_once s k) (Err f.refusal) (record { answer = f.says (number_in n ∷ kind_number k ∷ []); words = rw (ne_eqb (first_of ts) 0 (λ e. omega (arith, f.first, e))) }))
     (settles_then (string_tests s ++ (test 5 (eqb (number_in n) 0) ∷ test 11 (not (of_kind k (number_in n))) ∷ [])) (range_test zs k ∷ []) tt (range_settles zs k))
 
-write_one : (m : ℕ) (w : Record) (out : List ℕ) → OneAnswer (Written × List ℕ) (λ r. Writes m w out r.0 r.1)
+write_one : (m : ℕ) (w : Record) (out : List ℕ) → OneAnswer (Result ⊤ Refusal × List ℕ) (λ r. Writes m w out r.0 r.1)
 unfolding Writes
 write_one m w out =
     let ts = write_tests m w out in
     let left = left_by (first_of ts) (bytes_of_string (string_of m w)) out in
-    let so : (r : Written) → _ → OneAnswer (Written × List ℕ) (λ r. Writes m w out r.0 r.1) =
-    λ r e. one (Written × List ℕ) (λ r. Writes m w out r.0 r.1) (λ r q a b. pair (write_once m w out r.0 q.0 r.1 q.1 a b)) (r, left) (record { answer = e; output = refl })
+    let so : (r : Result ⊤ Refusal) → _ → OneAnswer (Result ⊤ Refusal × List ℕ) (λ r. Writes m w out r.0 r.1) =
+    λ r e. one (Result ⊤ Refusal × List ℕ) (λ r. Writes m w out r.0 r.1) (λ r q a b. pair (write_once m w out r.0 q.0 r.1 q.1 a b)) (r, left) (record { answer = e; output = refl })
     in
-    ⊎_elim (λ (z : first_of ts ≡ 0). so Done (taken_says ts [] z)) (λ (f : Fitting ts). so (NotWritten f.refusal) (f.says []))
+    ⊎_elim (λ (z : first_of ts ≡ 0). so (Ok tt) (taken_says ts [] z)) (λ (f : Fitting ts). so (Err f.refusal) (f.says []))
     (settles_then (test 12 (no_room out) ∷ test 11 (not (of_kind (kind_of w) m)) ∷ []) (range_test (list_of w) (kind_of w) ∷ []) tt (range_settles (list_of w) (kind_of w)))
 
 -- EVERY CALL ANSWERS, of any bytes and any record

@@ -9,10 +9,9 @@ use Prim.Native.Nat.{ℕ, ◌≤◌}
 use borrow.Author.Tests.{eqb-true, eqb-false}
 use lib.Dec.{eqb}
 use Rattle.strings.specs.Pick.{pick}
+use Rattle.std.specs.Prelude.{Option, Some, None}
 use Rattle.book.specs.declared.Entry.{Entry}
 use Rattle.book.specs.declared.Book.{Book}
-use Rattle.book.specs.declared.Shown.{Shown}
-use Rattle.book.specs.declared.Shown.TheVariants.{Nothing, At}
 use Rattle.book.specs.Entry.{Three, meaning, is_below, entry_of, greater, blank}
 use Rattle.book.specs.Book.{slots, in_slot, joined_shown}
 use Rattle.book.proofs.Order.{below_trans, below_irrefl, below_same, blank_below}
@@ -69,56 +68,56 @@ module _ (P : Three → Type 0) (x e : Entry) (dated : Dated e) (h : Holding P x
 
 -- ---- all that is shown, brought to a book
 -- an entry is shown for slot k among these
-abbrev pub InShows : ℕ → Three → List Shown → Type 0
+abbrev pub InShows : ℕ → Three → List (Option (ℕ × Entry)) → Type 0
 InShows k u [] = ⊥
-InShows k u (Nothing ∷ ss) = InShows k u ss
-InShows k u (At j e ∷ ss) = ((j ≡ k) × (u ≡ meaning e)) ⊎ InShows k u ss
+InShows k u (None ∷ ss) = InShows k u ss
+InShows k u (Some (j, e) ∷ ss) = ((j ≡ k) × (u ≡ meaning e)) ⊎ InShows k u ss
 
 -- what is shown is for a slot of the book, and is dated
-abbrev pub Right : Shown → Type 0
-Right Nothing = Unit
-Right (At j e) = (1 ≤ j) × ((j ≤ slots) × Dated e)
+abbrev pub Right : Option (ℕ × Entry) → Type 0
+Right None = Unit
+Right (Some (j, e)) = (1 ≤ j) × ((j ≤ slots) × Dated e)
 
-abbrev pub AllRight : List Shown → Type 0
+abbrev pub AllRight : List (Option (ℕ × Entry)) → Type 0
 AllRight [] = Unit
 AllRight (s ∷ ss) = Right s × AllRight ss
 
-pub brought_full : (ss : List Shown) (b : Book) → Full b → Full (brought b ss)
+pub brought_full : (ss : List (Option (ℕ × Entry))) (b : Book) → Full b → Full (brought b ss)
 unfolding brought
 brought_full [] b f = f
 brought_full (s ∷ ss) b f = brought_full ss (joined_shown b s) (shown_full b s f)
 
 module _ (k : ℕ) (least : 1 ≤ k) (most : k ≤ slots) where
   -- the first of them, for this slot or another
-  holding_first : (P : Three → Type 0) (j : ℕ) (e : Entry) (ss : List Shown) (b : Book) → Right (At j e) → Full b → Holding P (in_slot b k)
-      → ((Q : Three → Type 0) → Holding Q (in_slot (joined_shown b (At j e)) k) → Holding (λ u. Q u ⊎ InShows k u ss) (in_slot (brought (joined_shown b (At j e)) ss) k))
-      → (t : Bool) → eqb j k ≡ t → Holding (λ u. P u ⊎ InShows k u (At j e ∷ ss)) (in_slot (brought (joined_shown b (At j e)) ss) k)
+  holding_first : (P : Three → Type 0) (j : ℕ) (e : Entry) (ss : List (Option (ℕ × Entry))) (b : Book) → Right (Some (j, e)) → Full b → Holding P (in_slot b k)
+      → ((Q : Three → Type 0) → Holding Q (in_slot (joined_shown b (Some (j, e))) k) → Holding (λ u. Q u ⊎ InShows k u ss) (in_slot (brought (joined_shown b (Some (j, e))) ss) k))
+      → (t : Bool) → eqb j k ≡ t → Holding (λ u. P u ⊎ InShows k u (Some (j, e) ∷ ss)) (in_slot (brought (joined_shown b (Some (j, e))) ss) k)
   holding_first P j e ss b r f h ih true q =
       let w : j ≡ k = eqb-true j k q in
-      let slot : in_slot (joined_shown b (At j e)) k ≡ greater (in_slot b k) e =
-      subst (λ (i : ℕ). in_slot (joined_shown b (At i e)) k ≡ greater (in_slot b k) e) (sym w) (shown_slot b k e f least most)
+      let slot : in_slot (joined_shown b (Some (j, e))) k ≡ greater (in_slot b k) e =
+      subst (λ (i : ℕ). in_slot (joined_shown b (Some (i, e))) k ≡ greater (in_slot b k) e) (sym w) (shown_slot b k e f least most)
       in
       let Q : Three → Type 0 = λ u. P u ⊎ (u ≡ meaning e) in
-      holding_same (λ u. Q u ⊎ InShows k u ss) (λ u. P u ⊎ InShows k u (At j e ∷ ss)) (in_slot (brought (joined_shown b (At j e)) ss) k)
+      holding_same (λ u. Q u ⊎ InShows k u ss) (λ u. P u ⊎ InShows k u (Some (j, e) ∷ ss)) (in_slot (brought (joined_shown b (Some (j, e))) ss) k)
       (λ u. ⊎_elim (⊎_elim inl (λ (m : u ≡ meaning e). inr (inl (w, m)))) (λ (i : InShows k u ss). inr (inr i)))
       (λ u. ⊎_elim (λ (p : P u). inl (inl p)) (⊎_elim (λ (m : (j ≡ k) × (u ≡ meaning e)). inl (inr m.1)) inr))
       (ih Q (subst (Holding Q) (sym slot) (holding_more P (in_slot b k) e r.1.1 h)))
   holding_first P j e ss b r f h ih false q =
       let n : j ≡ k → ⊥ = eqb-false j k q in
-      holding_same (λ u. P u ⊎ InShows k u ss) (λ u. P u ⊎ InShows k u (At j e ∷ ss)) (in_slot (brought (joined_shown b (At j e)) ss) k)
+      holding_same (λ u. P u ⊎ InShows k u ss) (λ u. P u ⊎ InShows k u (Some (j, e) ∷ ss)) (in_slot (brought (joined_shown b (Some (j, e))) ss) k)
       (λ u. ⊎_elim inl (λ (i : InShows k u ss). inr (inr i)))
       (λ u. ⊎_elim inl (⊎_elim (λ (m : (j ≡ k) × (u ≡ meaning e)). absurd (n m.0)) inr))
       (ih P (subst (Holding P) (sym (shown_other b j e k r.0 least (λ w. n (sym w)))) h))
 
   -- THE SLOT HOLDS THE GREATEST OF WHAT WAS THERE AND WHAT IS BROUGHT
-  pub holding_brought : (ss : List Shown) (P : Three → Type 0) (b : Book) → AllRight ss → Full b → Holding P (in_slot b k)
+  pub holding_brought : (ss : List (Option (ℕ × Entry))) (P : Three → Type 0) (b : Book) → AllRight ss → Full b → Holding P (in_slot b k)
       → Holding (λ u. P u ⊎ InShows k u ss) (in_slot (brought b ss) k)
   unfolding brought
   holding_brought [] P b r f h = holding_same P (λ u. P u ⊎ ⊥) (in_slot b k) (λ u. inl) (λ u. ⊎_elim (λ (p : P u). p) (λ z. absurd z)) h
-  holding_brought (Nothing ∷ ss) P b r f h =
+  holding_brought (None ∷ ss) P b r f h =
       subst (λ (x : Book). Holding (λ u. P u ⊎ InShows k u ss) (in_slot (brought x ss) k)) (sym (shown_nothing b)) (holding_brought ss P b r.1 f h)
-  holding_brought (At j e ∷ ss) P b r f h =
-      holding_first P j e ss b r.0 f h (λ Q g. holding_brought ss Q (joined_shown b (At j e)) r.1 (shown_full b (At j e) f) g) (eqb j k) refl
+  holding_brought (Some (j, e) ∷ ss) P b r f h =
+      holding_first P j e ss b r.0 f h (λ Q g. holding_brought ss Q (joined_shown b (Some (j, e))) r.1 (shown_full b (Some (j, e)) f) g) (eqb j k) refl
 
 -- ---- two slots that hold the greatest of the same entries are the same
 pub held_once : (P Q : Three → Type 0) (x y : Entry) → ((u : Three) → P u → Q u) → ((u : Three) → Q u → P u) → Holding P x → Holding Q y → x ≡ y

@@ -9,6 +9,8 @@ use borrow.Author.Tests.{eqb-true, eqb-false}
 use lib.Dec.{eqb}
 use lib.ListN.{length}
 use Rattle.strings.specs.Pick.{pick}
+use Rattle.strings.specs.declared.Refusal.{Refusal}
+use Rattle.std.specs.Prelude.{Result, Ok, Err}
 use Rattle.strings.specs.Numbers.{Test, test, answer_of}
 use Rattle.strings.proofs.Answer.{refusal_same, not_taken, written_same}
 use Rattle.channel.specs.declared.Row.{Row}
@@ -19,8 +21,6 @@ use Rattle.records.specs.declared.named.ImmediateWords.{ImmediateWords}
 use Rattle.words.specs.Immediate.{immediate_of}
 use Rattle.immediate.specs.Kept.{has_record}
 use Rattle.station.specs.declared.Station.{Station}
-use Rattle.station.specs.declared.RecordFound.{RecordFound}
-use Rattle.station.specs.declared.RecordFound.TheVariants.{Found as FoundRecord, Refused as NoRecord}
 use Rattle.station.specs.Station.{channels, owner_of, row_at, is_served, gate_tests, station_tests, told_in, station_after, station_reset, shut_says}
 use Rattle.station.specs.Queries.{record_paper, FindsRecord, all_counts, FindsTallies}
 use Rattle.station.specs.Demand1.{WellMade}
@@ -60,29 +60,29 @@ module _ (card : ℕ) (st st' : Station) (agree : AgreeFor card st st') where
       by false e = shut_says_lem card c (tests (row_at st c)) (told (row_at st c)) e ∙ sym (shut_says_lem card c (tests (row_at st' c)) (told (row_at st' c)) e)
 
   -- a call that is not let in finds no record
-  shut_finds : (x : Station) (c : ℕ) (w : ImmediateWords) (start : ℕ) → FindsRecord x card c (FoundRecord w start) → is_served card c ≡ false → ⊥
+  shut_finds : (x : Station) (c : ℕ) (w : ImmediateWords) (start : ℕ) → FindsRecord x card c (Ok (w, start)) → is_served card c ≡ false → ⊥
   shut_finds x c w start a q = shut_not_zero card c q (a.answer ∙ shut_says_lem card c (test 13 (not (has_record (row_at x c).immediate)) ∷ []) [] q)
 
   said_alike : (c epoch : ℕ) (s : List ℕ)
       → answer_of (station_tests st card c epoch s) (told_in st c epoch s) ≡ answer_of (station_tests st' card c epoch s) (told_in st' c epoch s)
   said_alike c epoch s = by_row c (λ x. offer_tests (frame_of x) epoch s) (λ x. told_to (frame_of x) epoch s)
 
-  records_alike : (c : ℕ) (r r' : RecordFound) → FindsRecord st card c r → FindsRecord st' card c r' → r ≡ r'
+  records_alike : (c : ℕ) (r r' : Result (ImmediateWords × ℕ) Refusal) → FindsRecord st card c r → FindsRecord st' card c r' → r ≡ r'
   records_alike c r r' a b = by r r' (a.answer ∙ by_row c (λ x. test 13 (not (has_record x.immediate)) ∷ []) (λ x. []) ∙ sym b.answer) a b
     where
-      by : (r r' : RecordFound) → record_paper r ≡ record_paper r' → FindsRecord st card c r → FindsRecord st' card c r' → r ≡ r'
-      by (FoundRecord w s) (FoundRecord v t) e a b = found (is_served card c) refl
+      by : (r r' : Result (ImmediateWords × ℕ) Refusal) → record_paper r ≡ record_paper r' → FindsRecord st card c r → FindsRecord st' card c r' → r ≡ r'
+      by (Ok (w, s)) (Ok (v, t)) e a b = found (is_served card c) refl
         where
-          found : (served : Bool) → is_served card c ≡ served → FoundRecord w s ≡ FoundRecord v t
+          found : (served : Bool) → is_served card c ≡ served → ◌≡◌ {A = Result (ImmediateWords × ℕ) Refusal} (Ok (w, s)) (Ok (v, t))
           found true q =
               let same = agree c (served_below card c q) (owner_is card c q) in
               let x = a.words w s refl in
               let y = b.words v t refl in
-              ap₂ FoundRecord (x.0 ∙ ap (λ (z : Row). immediate_of z.immediate.strings) same ∙ sym y.0) (x.1 ∙ ap (λ (z : Row). z.immediate.start) same ∙ sym y.1)
+              ap₂ (λ (u : ImmediateWords) (z : ℕ). Ok (u, z)) (x.0 ∙ ap (λ (z : Row). immediate_of z.immediate.strings) same ∙ sym y.0) (x.1 ∙ ap (λ (z : Row). z.immediate.start) same ∙ sym y.1)
           found false q = absurd (shut_finds st c w s a q)
-      by (FoundRecord w s) (NoRecord q) e a b = absurd (not_taken q [] (sym e))
-      by (NoRecord p) (FoundRecord v s) e a b = absurd (not_taken p [] e)
-      by (NoRecord p) (NoRecord q) e a b = ap NoRecord (refusal_same p q e)
+      by (Ok (w, s)) (Err q) e a b = absurd (not_taken q [] (sym e))
+      by (Err p) (Ok (v, s)) e a b = absurd (not_taken p [] e)
+      by (Err p) (Err q) e a b = ap Err (refusal_same p q e)
 
   module _ (long : length st.rows ≡ channels) (long' : length st'.rows ≡ channels) where
     -- the row of the call is its card's, and every other stays

@@ -4,11 +4,12 @@
 use mathlib.Core.Path.{◌≡◌, refl, sym, ap₂, ◌∙◌}
 use mathlib.Core.List.{List, []}
 use Prim.Native.Nat.{ℕ}
-use Rattle.strings.specs.declared.Written.{Written}
 use Rattle.strings.specs.Numbers.{first_of, left_by, Exactly}
+use Rattle.channel.specs.declared.TakenString.{TakenString}
+use Rattle.strings.specs.declared.Refusal.{Refusal}
+use Rattle.std.specs.Prelude.{Result, ⊤}
 use Rattle.strings.specs.Calls.{written_paper, sound_tests}
 use Rattle.strings.proofs.Answer.{written_same, exactly}
-use Rattle.channel.specs.declared.Answer.{Answer}
 use Rattle.channel.specs.Offers.{answer_paper}
 use Rattle.channel.proofs.Answers.{answer_same}
 use Rattle.station.specs.declared.Station.{Station}
@@ -19,12 +20,12 @@ use Rattle.station.specs.Station.{gate_tests, station_tests, OffersTo, Resets}
 -- NO SECOND ANSWER FITS, and no second station
 pub offers_to_once : (st : Station) (card c epoch : ℕ) (s : List ℕ) (r q : Stepped) → OffersTo st card c epoch s r → OffersTo st card c epoch s q → r ≡ q
 offers_to_once st card c epoch s r q a b =
-    ap₂ (λ (x : Station) (y : Answer). record { station = x; answer = y }) (a.station ∙ sym b.station)
+    ap₂ (λ (x : Station) (y : Result TakenString Refusal). record { station = x; answer = y }) (a.station ∙ sym b.station)
     (answer_same r.answer q.answer (a.answer ∙ sym b.answer))
 
 pub resets_once : (st : Station) (card c : ℕ) (r q : Emptied) → Resets st card c r → Resets st card c q → r ≡ q
 resets_once st card c r q a b =
-    ap₂ (λ (x : Station) (y : Written). record { station = x; answer = y }) (a.station ∙ sym b.station)
+    ap₂ (λ (x : Station) (y : Result ⊤ Refusal). record { station = x; answer = y }) (a.station ∙ sym b.station)
     (written_same r.answer q.answer (a.answer ∙ sym b.answer))
 
 -- "The first that fits is given, and given only then"

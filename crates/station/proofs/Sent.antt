@@ -12,8 +12,11 @@ use lib.Dec.{eqb, ltb, leb, lit≤}
 use lib.ListN.{length, set}
 use lib.Seq.{get_or-set_same, get_or-set_other}
 use Rattle.strings.specs.declared.Verdict.{Verdict}
+use Rattle.strings.specs.declared.Refusal.{Refusal}
+use Rattle.tallies.specs.declared.Tallies.{Tallies}
+use Rattle.book.specs.declared.Entry.{Entry}
+use Rattle.std.specs.Prelude.{Result, Ok, Err, Option}
 use Rattle.strings.specs.declared.Verdict.TheVariants.{Clean, Repaired}
-use Rattle.strings.specs.declared.hamming.Ruling.TheVariants.{Sound, Damaged}
 use Rattle.strings.specs.declared.hamming.Damage.{Damage}
 use Rattle.strings.specs.declared.hamming.Damage.TheVariants.{Unplaced, Even, Outside}
 use Rattle.strings.specs.Number.{bit_of, number_of, misshapen, flip}
@@ -32,7 +35,6 @@ use Rattle.relative.proofs.RelativeCode.{read_written, written_lt, inverse_lt, i
 use Rattle.hearing.specs.Hears.{plain_of, whole_of, hear_tests}
 use Rattle.hearing.proofs.Hearing.{heard_then}
 use Rattle.book.specs.declared.Book.{Book}
-use Rattle.book.specs.declared.Shown.{Shown}
 use Rattle.tallies.specs.Tallies.{is_clean, is_repaired, causes, cause_of, one_more, one_more_if, causes_after}
 use Rattle.tallies.specs.Tallies.Outcome.{Taken}
 use Rattle.channel.specs.declared.Row.{Row}
@@ -42,7 +44,6 @@ use Rattle.channel.specs.Offers.{answer_paper, offer_tests, taken_row, offered_r
 use Rattle.shows.specs.Shows.{shows_of, brought, changes}
 use Rattle.station.specs.declared.Station.{Station}
 use Rattle.station.specs.declared.Stepped.{Stepped}
-use Rattle.station.specs.declared.TalliesFound.{TalliesFound}
 use Rattle.station.specs.Station.{channels, no_row, row_at, held_at, is_served, told_in, book_after, entry_changes, corrected, summary_after, station_after, OffersTo}
 use Rattle.station.specs.Queries.{all_counts, tallies_paper, FindsTallies}
 use Rattle.station.proofs.Served.{open_says, served_below}
@@ -78,7 +79,7 @@ module _ (k : ℕ) (s : List ℕ) (p : ℕ) (h : k < 2 ^ 84) (e : SentWith k s p
 -- bytes that the check leaves as n with the verdict v
 record LeftAs (s : List ℕ) (n : ℕ) (v : Verdict) : Type 0 where
   shape : misshapen s ≡ false
-  rules : ruling (plain_of s) ≡ Sound v
+  rules : ruling (plain_of s) ≡ Ok v
   whole : whole_of s ≡ n
 
 module _ (n : ℕ) (g : SentString n) where
@@ -116,7 +117,7 @@ not_four m = by (leb m 4) (eqb 1 m) (eqb 2 m) refl refl
     by true true true p q = let x = eqb-true 1 m p in let y = eqb-true 2 m q in absurd (omega arith)
 
 -- ---- DAMAGED, whatever the channel holds
-damaged : (st : Station) (card c epoch k : ℕ) (s : List ℕ) (r : Stepped) → is_served card c ≡ true → k < 2 ^ 84 → (d : Damage) → ruling k ≡ Damaged d → SentAs k s
+damaged : (st : Station) (card c epoch k : ℕ) (s : List ℕ) (r : Stepped) → is_served card c ≡ true → k < 2 ^ 84 → (d : Damage) → ruling k ≡ Err d → SentAs k s
     → OffersTo st card c epoch s r → answer_paper r.answer ≡ damage_number d ∷ []
 damaged st card c epoch k s r l h d q e o =
     let p = damaged_says (plain_of s) d (ap ruling (sent_plain k s h e) ∙ q) (place_tests (held_at st c) epoch (whole_of s)) in
@@ -171,7 +172,7 @@ module _ (st : Station) (card c epoch n : ℕ) (a : Awaits st card c epoch n) (i
   book_left = rw (clear, w.whole, holds_none)
 
   -- and the summary: an entry changes by what the frame then shows
-  abbrev shown : List Shown
+  abbrev shown : List (Option (ℕ × Entry))
   shown = shows_of (frame_of (taken_row row epoch n))
 
   changes_left : entry_changes st.book row epoch s ≡ changes st.book shown
@@ -197,7 +198,7 @@ module _ (st : Station) (card c epoch n : ℕ) (a : Awaits st card c epoch n) (i
     other_row k d = ap (λ (x : Station). row_at x k) station-left ∙ get_or-set_other st.rows c k next no_row d
 
   -- and the tallies that are then told
-  told : (r : Stepped) (t : TalliesFound) → OffersTo st card c epoch s r → length st.rows ≡ channels → FindsTallies r.station card c t
+  told : (r : Stepped) (t : Result Tallies Refusal) → OffersTo st card c epoch s r → length st.rows ≡ channels → FindsTallies r.station card c t
       → tallies_paper t ≡ 0 ∷ one_more (tallies_at st c).offered ∷ one_more_if (is_clean (Taken v)) (tallies_at st c).clean
       ∷ one_more_if (is_repaired (Taken v)) (tallies_at st c).repaired ∷ (tallies_at st c).refused ∷ map (cause_of (tallies_at st c)) causes
   unfolding FindsTallies counted taken_row causes_after

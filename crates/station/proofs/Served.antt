@@ -10,13 +10,12 @@ use borrow.Author.Tests.{le-ltb, lt-ltb, ltb-false, eqb-true, eq-eqb, ne_eqb}
 use lib.Dec.{T, eqb, ltb}
 use lib.ListN.{get_or}
 use Rattle.strings.specs.Pick.{pick}
+use Rattle.std.specs.Prelude.{Result, Ok, Err}
 use Rattle.strings.specs.declared.Refusal.{Refusal}
 use Rattle.strings.specs.declared.Refusal.TheVariants.{Channel, Owner, Card}
 use Rattle.strings.specs.Numbers.{refusal_paper, Test, test, first_of, place_of, said_by, answer_of}
 use Rattle.strings.proofs.Below.{and_left, and_right}
 use Rattle.strings.proofs.Tests.{past_first, no_place, all_of}
-use Rattle.station.specs.declared.Gate.{Gate}
-use Rattle.station.specs.declared.Gate.TheVariants.{Open, Shut}
 use Rattle.station.specs.Station.{card_channels, channels, last_channel, owner_of, is_card, gate_tests, none_fits, is_served, shut_says, Enters}
 
 -- ---- tests before others
@@ -114,30 +113,30 @@ pub below_served : (c : ℕ) → c < channels → is_served (owner_of c) c ≡ t
 below_served c h = owned_served (owner_of c) c (owner_card c) (omega arith) refl
 
 -- ---- what the code finds
-pub enters_no_card : (card c : ℕ) → is_card card ≡ false → Enters card c (Shut Card)
+pub enters_no_card : (card c : ℕ) → is_card card ≡ false → Enters card c (Err Card)
 unfolding is_served
 enters_no_card card c k = (rw k, rw k)
 
-pub enters_no_channel : (card c : ℕ) → is_card card ≡ true → last_channel < c → Enters card c (Shut Channel)
+pub enters_no_channel : (card c : ℕ) → is_card card ≡ true → last_channel < c → Enters card c (Err Channel)
 unfolding is_served
 enters_no_channel card c k l = let f = lt-ltb last_channel c l in (rw (k, f), rw (k, f))
 
-pub enters_not_owner : (card c : ℕ) → is_card card ≡ true → c ≤ last_channel → (owner_of c ≡ card → ⊥) → Enters card c (Shut Owner)
+pub enters_not_owner : (card c : ℕ) → is_card card ≡ true → c ≤ last_channel → (owner_of c ≡ card → ⊥) → Enters card c (Err Owner)
 unfolding is_served
 enters_not_owner card c k l n = let f = le-ltb last_channel c l in let g = ne_eqb (owner_of c) card n in (rw (k, f, g), rw (k, f, g))
 
-pub enters_open : (card c i : ℕ) → is_card card ≡ true → c ≤ last_channel → owner_of c ≡ card → i ≡ c → Enters card c (Open i)
+pub enters_open : (card c i : ℕ) → is_card card ≡ true → c ≤ last_channel → owner_of c ≡ card → i ≡ c → Enters card c (Ok i)
 enters_open card c i k l o e = (owned_served card c k l o, (e, omega arith))
 
-module _ (card c : ℕ) {g : Gate} (n : Enters card c g) where
-  pub opened : {i : ℕ} → g ≡ Open i → Enters card c (Open i)
+module _ (card c : ℕ) {g : Result ℕ Refusal} (n : Enters card c g) where
+  pub opened : {i : ℕ} → g ≡ Ok i → Enters card c (Ok i)
   opened e = subst (Enters card c) e n
 
-  pub shut : {why : Refusal} → g ≡ Shut why → Enters card c (Shut why)
+  pub shut : {why : Refusal} → g ≡ Err why → Enters card c (Err why)
   shut e = subst (Enters card c) e n
 
 -- what holds of the row where a call entered holds of its channel
-pub entered : (P : ℕ → Type 0) (card : ℕ) {c i : ℕ} → Enters card c (Open i) → (is_served card i ≡ true → P i) → P c
+pub entered : (P : ℕ → Type 0) (card : ℕ) {c i : ℕ} → Enters card c (Ok i) → (is_served card i ≡ true → P i) → P c
 entered P card n f = subst P n.1.0 (f (ap (is_served card) n.1.0 ∙ n.0))
 
 -- and its number: 0 where the call is served

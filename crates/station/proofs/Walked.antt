@@ -6,8 +6,9 @@ use mathlib.Core.Bool.{Bool, true, false, ◌&&◌}
 use mathlib.Core.List.{List}
 use Prim.Native.Nat.{ℕ}
 use Rattle.strings.specs.Pick.{pick}
+use Rattle.book.specs.declared.Entry.{Entry}
+use Rattle.std.specs.Prelude.{Option}
 use Rattle.book.specs.declared.Book.{Book}
-use Rattle.book.specs.declared.Shown.{Shown}
 use Rattle.summary.specs.declared.Summary.{Summary}
 use Rattle.summary.specs.Walk.{walk_of}
 use Rattle.summary.proofs.EmptyBook.{walk_empty}
@@ -34,7 +35,7 @@ fresh_walked = sym walk_empty
 book_stays : (b : Book) (row : Row) (epoch : ℕ) (s : List ℕ) → entry_changes b row epoch s ≡ false → book_after b row epoch s ≡ b
 book_stays b row epoch s = by (stores_it (frame_of row) epoch s) (shows_of (frame_of (offered_row row epoch s)))
   where
-    by : (t : Bool) (ss : List Shown) → (t && changes b ss) ≡ false → pick t (brought b ss) b ≡ b
+    by : (t : Bool) (ss : List (Option (ℕ × Entry))) → (t && changes b ss) ≡ false → pick t (brought b ss) b ≡ b
     by true ss e = unchanged ss b e
     by false ss e = refl
 

@@ -2,7 +2,7 @@
 -- and "Demand 2 reads the new limit in place of 65,535". They are counted from the answers that the calls gave (`Tallied`), and from the calls alone
 -- (`Counted`).
 -- Assumes nothing.
-use Rattle.std.specs.Prelude.{ℕ, ◌+◌, min, Bool, true, not, ◌&&◌, List, [], ◌∷◌, ◌≡◌, eqb, length, get_or}
+use Rattle.std.specs.Prelude.{ℕ, ◌+◌, min, Bool, true, not, ◌&&◌, List, [], ◌∷◌, ◌≡◌, eqb, length, get_or, Ok}
 use Rattle.strings.specs.Pick.{pick, is_one_of}
 use Rattle.tallies.specs.Tallies.{is_offer, is_clean, is_repaired, is_refused, causes, is_refused_by, cause_of, limit, how_many}
 use Rattle.tallies.specs.Counts.{AddUp}
@@ -10,7 +10,6 @@ use Rattle.records.specs.declared.named.ImmediateWords.{ImmediateWords}
 use Rattle.immediate.specs.Kept.{record_in}
 use Rattle.channel.specs.History.{held_after, outcomes, record_after, record_start}
 use Rattle.station.specs.declared.Station.{Station}
-use Rattle.station.specs.declared.RecordFound.TheVariants.{Found as FoundRecord}
 use Rattle.station.specs.Station.{row_at, held_at}
 use Rattle.station.specs.Queries.{kept_at, FindsRecord}
 use Rattle.station.specs.History.{Call, Offer, Reset, is_on, calls_on}
@@ -56,7 +55,7 @@ pub record Counted (cs : List Call) (st : Station) (c : ℕ) : Type 0 where
   pub frame : held_at st c ≡ held_after (calls_on c cs)
   pub kept : record_in (kept_at st c) ≡ record_after (calls_on c cs)
   pub kept_start : (kept_at st c).start ≡ record_start (calls_on c cs)
-  pub told_start : (card : ℕ) (w : ImmediateWords) (start : ℕ) → FindsRecord st card c (FoundRecord w start) → start ≡ record_start (calls_on c cs)
+  pub told_start : (card : ℕ) (w : ImmediateWords) (start : ℕ) → FindsRecord st card c (Ok (w, start)) → start ≡ record_start (calls_on c cs)
   pub offered : (row_at st c).tallies.offered ≡ min limit (how_many is_offer (outcomes (calls_on c cs)))
   pub clean : (row_at st c).tallies.clean ≡ min limit (how_many is_clean (outcomes (calls_on c cs)))
   pub repaired : (row_at st c).tallies.repaired ≡ min limit (how_many is_repaired (outcomes (calls_on c cs)))

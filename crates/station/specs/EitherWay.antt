@@ -1,10 +1,11 @@
 -- Whichever way up a string's symbols came: "Station contents, order of checks and the read bits do not depend on it. A string and its inverse now answer
 -- alike except in this field, and demand 2 is read so." The inverse is the string with all 85 symbols inverted, the padding not.
 -- Assumes nothing.
-use Rattle.std.specs.Prelude.{ℕ, ◌^◌, ◌<◌, true, List, [], ◌∷◌, ◌⊎◌, ◌≡◌}
+use Rattle.std.specs.Prelude.{ℕ, ◌^◌, ◌<◌, true, List, [], ◌∷◌, ◌⊎◌, ◌≡◌, Result}
+use Rattle.strings.specs.declared.Refusal.{Refusal}
+use Rattle.channel.specs.declared.TakenString.{TakenString}
 use Rattle.strings.specs.Number.{misshapen, bytes_of_string}
 use Rattle.relative.specs.Relative.{inverse}
-use Rattle.channel.specs.declared.Answer.{Answer}
 use Rattle.channel.specs.Offers.{answer_paper}
 use Rattle.channel.specs.Laws.{other_way}
 use Rattle.station.specs.declared.Station.{Station}
@@ -48,7 +49,7 @@ AlikeCalls (c ∷ cs) (d ∷ ds) = ((d ≡ c) ⊎ InverseOffered c d) × AlikeCa
 
 -- two answers that differ in the polarity alone
 pub record ButPolarity (said other : List ℕ) : Type 0 where
-  pub answer : Answer
+  pub answer : Result TakenString Refusal
   pub was : said ≡ answer_paper answer
   pub is : other ≡ answer_paper (other_way answer)
 

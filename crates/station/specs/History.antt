@@ -2,9 +2,8 @@
 -- labels: nothing here speaks of a row or a station but `Runs` and `station_of`, which say what the calls leave one after the other. Any bytes of any length,
 -- any epoch, any card, any channel.
 -- Assumes nothing.
-use Rattle.std.specs.Prelude.{ℕ, Bool, true, false, ◌&&◌, List, [], ◌∷◌, ◌≡◌, eqb}
+use Rattle.std.specs.Prelude.{ℕ, Bool, true, false, ◌&&◌, List, [], ◌∷◌, ◌≡◌, eqb, Some}
 use Rattle.strings.specs.Pick.{pick, is_one_of}
-use Rattle.book.specs.declared.Shown.TheVariants.{At}
 use Rattle.book.specs.Entry.{Three, is_below, entry_of}
 use Rattle.shows.specs.Shows.{shown_at}
 use Rattle.channel.specs.History.{Call as OnChannel, Offer as OfferIt, Reset as ResetIt, held_after, said_to}
@@ -84,7 +83,7 @@ pub record ShownBy (serves : Serving) (cs : List Call) (slot : ℕ) (t : Three) 
   pub within : Part moment (calls_by serves channel cs)
   pub pair : ℕ
   pub named : is_one_of pairs pair ≡ true
-  pub shows : shown_at (held_after moment) pair ≡ At slot (entry_of t)
+  pub shows : shown_at (held_after moment) pair ≡ Some (slot, entry_of t)
 
 -- the greatest entry shown: "by day, then by the even string's bits 80..9 as a number, then by the odd string's bits 80..10"
 pub record GreatestBy (serves : Serving) (cs : List Call) (slot : ℕ) (t : Three) : Type 0 where

@@ -2,13 +2,14 @@
 -- entries, the summary, and health, which reads the book, may differ." Of every station. The proof stands in `proofs/Isolation.antt`, and what does
 -- differ is computed in the crate `histories`.
 -- Assumes nothing.
-use Rattle.std.specs.Prelude.{ℕ, ◌<◌, Bool, List, [], ◌∷◌, ◌≡◌, eqb}
+use Rattle.std.specs.Prelude.{ℕ, ◌<◌, Bool, List, [], ◌∷◌, ◌≡◌, eqb, Result}
+use Rattle.tallies.specs.declared.Tallies.{Tallies}
+use Rattle.strings.specs.declared.Refusal.{Refusal}
+use Rattle.records.specs.declared.named.ImmediateWords.{ImmediateWords}
 use Rattle.strings.specs.Pick.{pick}
 use Rattle.station.specs.declared.Station.{Station}
 use Rattle.station.specs.declared.Stepped.{Stepped}
 use Rattle.station.specs.declared.Emptied.{Emptied}
-use Rattle.station.specs.declared.RecordFound.{RecordFound}
-use Rattle.station.specs.declared.TalliesFound.{TalliesFound}
 use Rattle.station.specs.Station.{channels, owner_of, row_at, OffersTo, Resets}
 use Rattle.station.specs.Queries.{FindsRecord, FindsTallies}
 use Rattle.station.specs.Demand1.{WellMade}
@@ -29,8 +30,8 @@ pub record AnsweredAlike (card : ℕ) (st st' : Station) : Type 0 where
   pub offers : (c epoch : ℕ) (s : List ℕ) (r r' : Stepped) → OffersTo st card c epoch s r → OffersTo st' card c epoch s r'
       → (r.answer ≡ r'.answer) × AgreeFor card r.station r'.station
   pub resets : (c : ℕ) (r r' : Emptied) → Resets st card c r → Resets st' card c r' → (r.answer ≡ r'.answer) × AgreeFor card r.station r'.station
-  pub records : (c : ℕ) (r r' : RecordFound) → FindsRecord st card c r → FindsRecord st' card c r' → r ≡ r'
-  pub tallies : (c : ℕ) (r r' : TalliesFound) → FindsTallies st card c r → FindsTallies st' card c r' → r ≡ r'
+  pub records : (c : ℕ) (r r' : Result (ImmediateWords × ℕ) Refusal) → FindsRecord st card c r → FindsRecord st' card c r' → r ≡ r'
+  pub tallies : (c : ℕ) (r r' : Result Tallies Refusal) → FindsTallies st card c r → FindsTallies st' card c r' → r ≡ r'
 
 -- ---- calls one after the other: a card's own, each with its answer, in their order
 abbrev pub is_by : ℕ → Said → Bool

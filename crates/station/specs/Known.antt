@@ -1,11 +1,10 @@
 -- The known strings of the paper ("Known strings and edges"): every row marked there with a star, in the paper's order, as one table. The rows of
 -- strings, words and days are those of the lower layers' tables.
 -- Assumes nothing.
-use Rattle.std.specs.Prelude.{ℕ, ◌+◌, ◌^◌, Bool, true, false, not, ◌&&◌, [], ◌∷◌, ◌≡◌, refl, eqb, ltb, pos, negsuc}
+use Rattle.std.specs.Prelude.{ℕ, ◌+◌, ◌^◌, Bool, true, false, not, ◌&&◌, [], ◌∷◌, ◌≡◌, refl, eqb, ltb, pos, negsuc, Ok, Err}
 use Rattle.std.proofs.Common.{true≢false, sym}
 use Rattle.strings.specs.declared.Verdict.TheVariants.{Clean, Repaired}
 use Rattle.strings.specs.declared.hamming.Damage.TheVariants.{Unplaced, Even, Outside}
-use Rattle.strings.specs.declared.hamming.Ruling.TheVariants.{Sound, Damaged}
 use Rattle.strings.specs.Number.{number_of, padding_of, misshapen, word_of, flip, bytes_of_string}
 use Rattle.relative.specs.declared.Polarity.TheVariants.{Upright, Inverted}
 use Rattle.relative.specs.Relative.{read_relative, write_relative, inverse}
@@ -30,7 +29,7 @@ pub record KnownStrings : Type 0 where
   -- "A: m = 1, data zero, encoded: bits 81, 8, 7, 5 set; 08 00 00 00 00 00 00 00 00 06 80. Clean."
   pub a_bits : a ≡ 2 ^ 80 + 2 ^ 7 + 2 ^ 6 + 2 ^ 4
   pub a_encoded : bytes_of_string (encode (2 ^ 80)) ≡ A
-  pub a_clean : ruling a ≡ Sound Clean
+  pub a_clean : ruling a ≡ Ok Clean
   -- "B: A in relative form 0F FF FF FF FF FF FF FF FF FB 00; inverted F0 00 00 00 00 00 00 00 00 04 F8; both read as A."
   pub b_sent : bytes_of_string (write_relative a) ≡ B
   pub b_inverted : bytes_of_string (inverse (number_of B)) ≡ inverse_b
@@ -41,24 +40,24 @@ pub record KnownStrings : Type 0 where
   pub b_inverse_inverted : polarity_of (number_of inverse_b) ≡ Inverted
   -- "A with bit 9 flipped: S = 3, repaired 9."
   pub flip_9_S : syndrome (flip a 9) ≡ 3
-  pub flip_9 : ruling (flip a 9) ≡ Sound (Repaired 9)
+  pub flip_9 : ruling (flip a 9) ≡ Ok (Repaired 9)
   -- "Bit 85: S = 84, repaired 85."
   pub flip_85_S : syndrome (flip a 85) ≡ 84
-  pub flip_85 : ruling (flip a 85) ≡ Sound (Repaired 85)
+  pub flip_85 : ruling (flip a 85) ≡ Ok (Repaired 85)
   -- "Bit 5: repaired 5."
-  pub flip_5 : ruling (flip a 5) ≡ Sound (Repaired 5)
+  pub flip_5 : ruling (flip a 5) ≡ Ok (Repaired 5)
   -- "Bit 8: DAMAGED.", which is 31
-  pub flip_8 : ruling (flip a 8) ≡ Damaged Unplaced
+  pub flip_8 : ruling (flip a 8) ≡ Err Unplaced
   pub flip_8_said : said (flip a 8) ≡ 31 ∷ []
   -- "Bits 9, 10: DAMAGED.": 32
-  pub flip_9_10 : ruling (flip (flip a 9) 10) ≡ Damaged Even
+  pub flip_9_10 : ruling (flip (flip a 9) 10) ≡ Err Even
   pub flip_9_10_said : said (flip (flip a 9) 10) ≡ 32 ∷ []
   -- "Bits 85, 9, 8: S = 87, DAMAGED.": 33
   pub flip_85_9_8_S : syndrome (flip (flip (flip a 85) 9) 8) ≡ 87
-  pub flip_85_9_8 : ruling (flip (flip (flip a 85) 9) 8) ≡ Damaged Outside
+  pub flip_85_9_8 : ruling (flip (flip (flip a 85) 9) 8) ≡ Err Outside
   pub flip_85_9_8_said : said (flip (flip (flip a 85) 9) 8) ≡ 33 ∷ []
   -- "Eleven zero bytes: clean, then NUMBER": by the check, then by the reader whatever kind is asked, and on any channel of a fresh station at any epoch
-  pub zeros_clean : ruling (number_of zeros) ≡ Sound Clean
+  pub zeros_clean : ruling (number_of zeros) ≡ Ok Clean
   pub zeros_number : (k : Kind) → first_of (read_tests zeros k) ≡ 5
   pub zeros_offered : (card c epoch : ℕ) → is_served card c ≡ true → answer_of (station_tests fresh_station card c epoch zeros) (told_in fresh_station c epoch zeros) ≡ 5 ∷ []
   -- "Five signed bits 10000, 10001, 11111, 01111: 0, -1, -15, 15.": in the x acceleration, the fourth word of string 1

@@ -1,7 +1,8 @@
 -- What a station answers when it is asked (the paper: "Queries: 1 or 14, then 13", and "Health"; requests 5 and 10): "Every
 -- offer, reset, query and block names the asking card".
 -- Assumes nothing.
-use Rattle.std.specs.Prelude.{ℕ, ◌*◌, ◌^◌, Bool, not, ◌&&◌, List, [], ◌∷◌, ◌++◌, map, ◌≡◌, eqb, leb}
+use Rattle.std.specs.Prelude.{ℕ, ◌*◌, ◌^◌, Bool, not, ◌&&◌, List, [], ◌∷◌, ◌++◌, map, ◌≡◌, eqb, leb, Result, Ok, Err}
+use Rattle.strings.specs.declared.Refusal.{Refusal}
 use Rattle.strings.specs.Pick.{pick}
 use Rattle.strings.specs.Number.{word_of}
 use Rattle.strings.specs.Numbers.{refusal_paper, Test, test, answer_of}
@@ -19,16 +20,6 @@ use Rattle.immediate.specs.Kept.{has_record}
 use Rattle.station.specs.declared.Station.{Station}
 use Rattle.station.specs.declared.Health.{Health}
 use Rattle.station.specs.declared.Health.TheVariants.{Unknown, Usable, NotUsable}
-use Rattle.station.specs.declared.RecordFound.{RecordFound}
-use Rattle.station.specs.declared.RecordFound.TheVariants.{Found as FoundRecord, Refused as NoRecord}
-use Rattle.station.specs.declared.EntryFound.{EntryFound}
-use Rattle.station.specs.declared.EntryFound.TheVariants.{Found as FoundEntry, Refused as NoEntry}
-use Rattle.station.specs.declared.TalliesFound.{TalliesFound}
-use Rattle.station.specs.declared.TalliesFound.TheVariants.{Found as FoundTallies, Refused as NoTallies}
-use Rattle.station.specs.declared.HealthFound.{HealthFound}
-use Rattle.station.specs.declared.HealthFound.TheVariants.{Found as FoundHealth, Refused as NoHealth}
-use Rattle.station.specs.declared.SummaryFound.{SummaryFound}
-use Rattle.station.specs.declared.SummaryFound.TheVariants.{Found as FoundSummary, Refused as NoSummary}
 use Rattle.station.specs.Station.{row_at, card_test, gate_tests}
 
 -- ---- the immediate record: the gate, 13
@@ -39,14 +30,14 @@ kept_at st c = (row_at st c).immediate
 abbrev pub record_tests : Station → ℕ → ℕ → List Test
 record_tests st card c = gate_tests card c ++ (test 13 (not (has_record (kept_at st c))) ∷ [])
 
-abbrev pub record_paper : RecordFound → List ℕ
-record_paper (FoundRecord w start) = 0 ∷ []
-record_paper (NoRecord q) = refusal_paper q
+abbrev pub record_paper : Result (ImmediateWords × ℕ) Refusal → List ℕ
+record_paper (Ok (w, start)) = 0 ∷ []
+record_paper (Err q) = refusal_paper q
 
 -- and where it is there, its words and "its frame's start"
-pub record FindsRecord (st : Station) (card c : ℕ) (r : RecordFound) : Type 0 where
+pub record FindsRecord (st : Station) (card c : ℕ) (r : Result (ImmediateWords × ℕ) Refusal) : Type 0 where
   pub answer : record_paper r ≡ answer_of (record_tests st card c) []
-  pub words : (w : ImmediateWords) (start : ℕ) → r ≡ FoundRecord w start → (w ≡ immediate_of (kept_at st c).strings) × (start ≡ (kept_at st c).start)
+  pub words : (w : ImmediateWords) (start : ℕ) → r ≡ Ok (w, start) → (w ≡ immediate_of (kept_at st c).strings) × (start ≡ (kept_at st c).start)
 
 -- ---- an entry: 16, 14, 13. A card reaches "the book with its summary", whichever card brought the entry
 -- SLOT: "slot not 1..24"
@@ -64,35 +55,35 @@ entry_tests st card k = card_test card ∷ test 14 (not (is_slot k)) ∷ test 13
 abbrev pub three_numbers : Three → List ℕ
 three_numbers t = t.day ∷ t.even ∷ t.odd ∷ []
 
-abbrev pub entry_paper : EntryFound → List ℕ
-entry_paper (FoundEntry e) = 0 ∷ three_numbers (meaning e)
-entry_paper (NoEntry q) = refusal_paper q
+abbrev pub entry_paper : Result Entry Refusal → List ℕ
+entry_paper (Ok e) = 0 ∷ three_numbers (meaning e)
+entry_paper (Err q) = refusal_paper q
 
-pub record FindsEntry (st : Station) (card k : ℕ) (r : EntryFound) : Type 0 where
+pub record FindsEntry (st : Station) (card k : ℕ) (r : Result Entry Refusal) : Type 0 where
   pub answer : entry_paper r ≡ answer_of (entry_tests st card k) (three_numbers (meaning (in_slot st.book k)))
-  pub entry : (e : Entry) → r ≡ FoundEntry e → e ≡ in_slot st.book k
+  pub entry : (e : Entry) → r ≡ Ok e → e ≡ in_slot st.book k
 
 -- ---- the tallies: the gate
 -- the four, and those of the causes in the order of the tests
 abbrev pub all_counts : Tallies → List ℕ
 all_counts t = t.offered ∷ t.clean ∷ t.repaired ∷ t.refused ∷ map (cause_of t) causes
 
-abbrev pub tallies_paper : TalliesFound → List ℕ
-tallies_paper (FoundTallies t) = 0 ∷ all_counts t
-tallies_paper (NoTallies q) = refusal_paper q
+abbrev pub tallies_paper : Result Tallies Refusal → List ℕ
+tallies_paper (Ok t) = 0 ∷ all_counts t
+tallies_paper (Err q) = refusal_paper q
 
-unfoldable pub FindsTallies : Station → ℕ → ℕ → TalliesFound → Type 0
+unfoldable pub FindsTallies : Station → ℕ → ℕ → Result Tallies Refusal → Type 0
 FindsTallies st card c r = tallies_paper r ≡ answer_of (gate_tests card c) (all_counts (row_at st c).tallies)
 
 -- ---- the summary: 16. "how many slots are filled, the oldest day and the newest", as the station keeps it
 abbrev pub summary_numbers : Summary → List ℕ
 summary_numbers s = s.count ∷ s.oldest ∷ s.newest ∷ []
 
-abbrev pub summary_paper : SummaryFound → List ℕ
-summary_paper (FoundSummary s) = 0 ∷ summary_numbers s
-summary_paper (NoSummary q) = refusal_paper q
+abbrev pub summary_paper : Result Summary Refusal → List ℕ
+summary_paper (Ok s) = 0 ∷ summary_numbers s
+summary_paper (Err q) = refusal_paper q
 
-unfoldable pub FindsSummary : Station → ℕ → SummaryFound → Type 0
+unfoldable pub FindsSummary : Station → ℕ → Result Summary Refusal → Type 0
 FindsSummary st card r = summary_paper r ≡ answer_of (card_test card ∷ []) (summary_numbers st.summary)
 
 -- ---- health: the gate
@@ -141,9 +132,9 @@ health_number Unknown = 0
 health_number Usable = 1
 health_number NotUsable = 2
 
-abbrev pub health_paper : HealthFound → List ℕ
-health_paper (FoundHealth h) = 0 ∷ health_number h ∷ []
-health_paper (NoHealth q) = refusal_paper q
+abbrev pub health_paper : Result Health Refusal → List ℕ
+health_paper (Ok h) = 0 ∷ health_number h ∷ []
+health_paper (Err q) = refusal_paper q
 
-unfoldable pub FindsHealth : Station → ℕ → ℕ → HealthFound → Type 0
+unfoldable pub FindsHealth : Station → ℕ → ℕ → Result Health Refusal → Type 0
 FindsHealth st card c r = health_paper r ≡ answer_of (gate_tests card c) (health_number (health_by (kept_at st c) st.book) ∷ [])

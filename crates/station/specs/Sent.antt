@@ -2,7 +2,8 @@
 -- and in the station that is left. "So from an encoded string one flip is repaired unless it is bit 8, and every two flips are DAMAGED", and the
 -- string itself is taken as clean. The proof stands in `proofs/Sent.antt`.
 -- Assumes nothing.
-use Rattle.std.specs.Prelude.{ℕ, ◌-◌, ◌%◌, ◌^◌, ◌≤◌, ◌<◌, true, List, [], ◌∷◌, map, ◌⊎◌, ◌≡◌, refl, length}
+use Rattle.std.specs.Prelude.{ℕ, ◌-◌, ◌%◌, ◌^◌, ◌≤◌, ◌<◌, true, List, [], ◌∷◌, map, ◌⊎◌, ◌≡◌, refl, length, Result}
+use Rattle.strings.specs.declared.Refusal.{Refusal}
 use Rattle.std.proofs.Common.{lit<, lit≤}
 use Rattle.strings.specs.Number.{number_of, bit_of, word_of, flip, bytes_of_string}
 use Rattle.strings.specs.Hamming.{position, sum_c, sum_all, syndrome, Encoded}
@@ -14,7 +15,6 @@ use Rattle.channel.specs.Row.{empty_row}
 use Rattle.channel.specs.Offers.{answer_paper}
 use Rattle.station.specs.declared.Station.{Station}
 use Rattle.station.specs.declared.Stepped.{Stepped}
-use Rattle.station.specs.declared.TalliesFound.{TalliesFound}
 use Rattle.station.specs.Station.{channels, last_channel, fresh_station, row_at, is_served, OffersTo}
 use Rattle.station.specs.Queries.{tallies_paper, FindsTallies}
 
@@ -81,10 +81,10 @@ pub record HeardAsSent (st : Station) (card c epoch n : ℕ) : Type 0 where
   pub left : (i : ℕ) (s t : List ℕ) (q r : Stepped) → length st.rows ≡ channels → Awaits st card c epoch n → IsBit i → (i ≡ 8 → ⊥)
       → SentAs n s → OffersTo st card c epoch s q → SentAs (flip n i) t → OffersTo st card c epoch t r → SameButVerdict st c q.station r.station
   -- the tallies that are then told: offered, clean, repaired, refused, and the causes
-  pub clean_told : (s : List ℕ) (r : Stepped) (t : TalliesFound) → length st.rows ≡ channels → Awaits st card c epoch n → SentAs n s → OffersTo st card c epoch s r
+  pub clean_told : (s : List ℕ) (r : Stepped) (t : Result Tallies Refusal) → length st.rows ≡ channels → Awaits st card c epoch n → SentAs n s → OffersTo st card c epoch s r
       → FindsTallies r.station card c t
       → tallies_paper t ≡ 0 ∷ one_more (tallies_at st c).offered ∷ one_more (tallies_at st c).clean ∷ (tallies_at st c).repaired ∷ (tallies_at st c).refused ∷ map (cause_of (tallies_at st c)) causes
-  pub repaired_told : (i : ℕ) (s : List ℕ) (r : Stepped) (t : TalliesFound) → length st.rows ≡ channels → Awaits st card c epoch n → IsBit i → (i ≡ 8 → ⊥)
+  pub repaired_told : (i : ℕ) (s : List ℕ) (r : Stepped) (t : Result Tallies Refusal) → length st.rows ≡ channels → Awaits st card c epoch n → IsBit i → (i ≡ 8 → ⊥)
       → SentAs (flip n i) s → OffersTo st card c epoch s r → FindsTallies r.station card c t
       → tallies_paper t ≡ 0 ∷ one_more (tallies_at st c).offered ∷ (tallies_at st c).clean ∷ one_more (tallies_at st c).repaired ∷ (tallies_at st c).refused ∷ map (cause_of (tallies_at st c)) causes
   -- "a flip of bit 8 alone is refused": 31, "S = 0, C = 1"; and "every two flips are DAMAGED": 32, "S not 0, C = 0". Whatever the channel holds, at

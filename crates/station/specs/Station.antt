@@ -1,7 +1,8 @@
 -- A station: a row for each channel of two cards, one book and its summary, and what an offer and a reset make of it (the paper, "Frames and the book"
 -- and "Numbers that say no"; requests 5 and 10). For every station value, whichever card asks.
 -- Assumes nothing.
-use Rattle.std.specs.Prelude.{ℕ, ◌-◌, ◌<◌, Bool, true, false, not, ◌&&◌, ◌||◌, List, [], ◌∷◌, ◌++◌, ◌≡◌, eqb, ltb, get_or, set, replicate}
+use Rattle.std.specs.Prelude.{ℕ, ◌-◌, ◌<◌, Bool, true, false, not, ◌&&◌, ◌||◌, List, [], ◌∷◌, ◌++◌, ◌≡◌, eqb, ltb, get_or, set, replicate, Result, Ok, Err}
+use Rattle.strings.specs.declared.Refusal.{Refusal}
 use Rattle.strings.specs.Pick.{pick}
 use Rattle.strings.specs.Numbers.{refusal_paper, Test, test, answer_of}
 use Rattle.strings.specs.Calls.{written_paper}
@@ -16,8 +17,6 @@ use Rattle.channel.specs.Row.{frame_of, empty_row}
 use Rattle.channel.specs.Offers.{answer_paper, offer_tests, told_to, offered_row, stores_it}
 use Rattle.shows.specs.Shows.{shows_of, brought, changes}
 use Rattle.station.specs.declared.Station.{Station}
-use Rattle.station.specs.declared.Gate.{Gate}
-use Rattle.station.specs.declared.Gate.TheVariants.{Open, Shut}
 use Rattle.station.specs.declared.Stepped.{Stepped}
 use Rattle.station.specs.declared.Emptied.{Emptied}
 
@@ -75,9 +74,9 @@ abbrev pub shut_says : ℕ → ℕ → List ℕ
 shut_says card c = answer_of (gate_tests card c) []
 
 -- where a call enters: at its channel's row, which is one of the rows; or not, and why
-abbrev pub Enters : ℕ → ℕ → Gate → Type 0
-Enters card c (Open i) = (is_served card c ≡ true) × ((i ≡ c) × (i < channels))
-Enters card c (Shut why) = (is_served card c ≡ false) × (refusal_paper why ≡ shut_says card c)
+abbrev pub Enters : ℕ → ℕ → Result ℕ Refusal → Type 0
+Enters card c (Ok i) = (is_served card c ≡ true) × ((i ≡ c) × (i < channels))
+Enters card c (Err why) = (is_served card c ≡ false) × (refusal_paper why ≡ shut_says card c)
 
 -- ---- an offer: at the gate, and then "in the order 1 to 9"
 abbrev pub station_tests : Station → ℕ → ℕ → ℕ → List ℕ → List Test

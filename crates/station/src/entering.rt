@@ -3,7 +3,7 @@ ghost use Rattle.std.specs.Prelude.{◌≡◌};
 ghost use Rattle.strings.specs.Numbers.{first_of};
 ghost use Rattle.station.specs.Station.{owner_of, is_card, gate_tests, Enters};
 
-use crate::{CARD_CHANNELS, CHANNELS, Gate};
+use crate::{CARD_CHANNELS, CHANNELS};
 use strings::{Refusal, refusal_number};
 
 // The highest channel.
@@ -35,29 +35,29 @@ fn owner_of(channel: u8) -> u8
     2
 }
 
-// Whether a call may enter: at its channel's row, or not, and why.
-pub fn enter(card: u8, channel: u8) -> Gate
+// Where a call on a channel enters: at the row of this index, or not, and why.
+pub fn enter(card: u8, channel: u8) -> Result<usize, Refusal>
     ensures { Enters card channel result }
 {
     if !is_card(card) {
-        return Gate::Shut(Refusal::Card);
+        return Err(Refusal::Card);
     }
     if LAST_CHANNEL < channel {
-        return Gate::Shut(Refusal::Channel);
+        return Err(Refusal::Channel);
     }
     if owner_of(channel) != card {
-        return Gate::Shut(Refusal::Owner);
+        return Err(Refusal::Owner);
     }
-    Gate::Open(channel as usize)
+    Ok(channel as usize)
 }
 
-// The same in one number, for a call on a lent station: 0, or the number that says no.
+// The same in one number, for a call from C on a lent station: 0, or the number that says no.
 pub fn gate_number(card: u8, channel: u8) -> u64
     ensures { result ≡ first_of (gate_tests card channel) }
 {
     let gate = enter(card, channel);
     match gate {
-        Gate::Open(_) => 0,
-        Gate::Shut(why) => refusal_number(why) as u64,
+        Ok(_) => 0,
+        Err(why) => refusal_number(why) as u64,
     }
 }

@@ -6,17 +6,15 @@ mod entering;
 mod offering;
 mod queries;
 
-use book::{Book, Entry};
-use channel::{Answer, Row};
+use book::Book;
+use channel::{Row, TakenString};
 pub use entering::{enter, gate_number, is_card};
 pub use offering::{fresh, next_summary, offer, reset};
 pub use queries::{
     entry_of, health_number, health_of, immediate_of, judge, l_counted, summary_of, tallies_of,
 };
-use records::ImmediateWords;
-use strings::{Refusal, Written};
+use strings::Refusal;
 use summary::Summary;
-use tallies::Tallies;
 
 // How many channels a card has. The first of them are card one's.
 pub const CARD_CHANNELS: usize = 24;
@@ -34,53 +32,18 @@ pub struct Station {
     pub summary: Summary,
 }
 
-// Where a call on a channel enters: at the row of this index, or not, and why.
-#[derive(Clone, Copy)]
-pub enum Gate {
-    Open(usize),
-    Shut(Refusal),
-}
-
-// An offer's answer, and the station after it.
+// An offer's answer, or why not, and the station after it.
 #[derive(Clone, Copy)]
 pub struct Stepped {
     pub station: Station,
-    pub answer: Answer,
+    pub answer: Result<TakenString, Refusal>,
 }
 
-// A reset's answer, and the station after it.
+// Whether a channel was reset, or why not, and the station after it.
 #[derive(Clone, Copy)]
 pub struct Emptied {
     pub station: Station,
-    pub answer: Written,
-}
-
-// The words of a channel's immediate record and the start of its frame, or why not.
-#[derive(Clone, Copy)]
-pub enum RecordFound {
-    Found(ImmediateWords, u32),
-    Refused(Refusal),
-}
-
-// The entry of a slot, or why not.
-#[derive(Clone, Copy)]
-pub enum EntryFound {
-    Found(Entry),
-    Refused(Refusal),
-}
-
-// A channel's tallies, or why not.
-#[derive(Clone, Copy)]
-pub enum TalliesFound {
-    Found(Tallies),
-    Refused(Refusal),
-}
-
-// The book's summary, or why not.
-#[derive(Clone, Copy)]
-pub enum SummaryFound {
-    Found(Summary),
-    Refused(Refusal),
+    pub answer: Result<(), Refusal>,
 }
 
 // The health of a channel's satellite.
@@ -89,11 +52,4 @@ pub enum Health {
     Unknown,
     Usable,
     NotUsable,
-}
-
-// The health, or why not.
-#[derive(Clone, Copy)]
-pub enum HealthFound {
-    Found(Health),
-    Refused(Refusal),
 }

@@ -7,11 +7,11 @@ ghost use Rattle.strings.specs.Pick.{pick};
 ghost use Rattle.station.specs.Station.{fresh_station, corrected, OffersTo, Resets};
 
 use crate::entering::enter;
-use crate::{CHANNELS, Emptied, Gate, Station, Stepped};
+use crate::{CHANNELS, Emptied, Station, Stepped};
 use book::{Book, empty_book};
-use channel::{Answer, Row, empty_row, is_stored};
+use channel::{Row, TakenString, empty_row, is_stored};
 use shows::{Brought, bring};
-use strings::Written;
+use strings::Refusal;
 use summary::{Summary, walk_book};
 
 // A station that has heard nothing.
@@ -38,11 +38,11 @@ pub fn offer(mut st: Station, card: u8, channel: u8, epoch: u32, s: &[u8]) -> St
 {
     let gate = enter(card, channel);
     match gate {
-        Gate::Shut(why) => Stepped {
+        Err(why) => Stepped {
             station: st,
-            answer: Answer::Refused(why),
+            answer: Err(why),
         },
-        Gate::Open(i) => {
+        Ok(i) => {
             let row = st.rows[i];
             let offered = channel::offer(row, epoch, s);
             let next = offered.row;
@@ -65,7 +65,7 @@ pub fn offer(mut st: Station, card: u8, channel: u8, epoch: u32, s: &[u8]) -> St
 
 // A string newly stored brings all that its frame then shows to the book; without one nothing
 // changes.
-fn bring_if(answer: Answer, row: Row, b: Book) -> Brought
+fn bring_if(answer: Result<TakenString, Refusal>, row: Row, b: Book) -> Brought
     ensures { (result.book ≡ pick (is_stored answer) (brought b (shows_of (frame_of row))) b) × (result.changed ≡ (is_stored answer && changes b (shows_of (frame_of row)))) }
 {
     if is_stored(answer) {
@@ -95,16 +95,16 @@ pub fn reset(mut st: Station, card: u8, channel: u8) -> Emptied
 {
     let gate = enter(card, channel);
     match gate {
-        Gate::Shut(why) => Emptied {
+        Err(refusal) => Emptied {
             station: st,
-            answer: Written::Refused(why),
+            answer: Err(refusal),
         },
-        Gate::Open(i) => {
+        Ok(i) => {
             let row = empty_row();
             st.rows[i] = row;
             Emptied {
                 station: st,
-                answer: Written::Done,
+                answer: Ok(()),
             }
         }
     }

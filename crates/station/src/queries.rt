@@ -3,94 +3,73 @@ ghost use Rattle.std.specs.Prelude.{◌≡◌, ◌/◌, ◌%◌};
 ghost use Rattle.station.specs.Queries.{FindsRecord, FindsEntry, FindsTallies, FindsSummary, FindsHealth, health_by, l_of, model_of, l_counted, judged, health_number};
 
 use crate::entering::{enter, is_card};
-use crate::{
-    EntryFound, Gate, Health, HealthFound, RecordFound, Station, SummaryFound, TalliesFound,
-};
-use book::{Book, LAST_SLOT, entry_in};
+use crate::{Health, Station};
+use book::{Book, Entry, LAST_SLOT, entry_in};
 use immediate::{Immediate, has_record};
+use records::ImmediateWords;
 use strings::Refusal;
+use summary::Summary;
+use tallies::Tallies;
 use words::{immediate_words, word_in};
 
 // The words of a channel's immediate record, and the start of the frame that it was read from.
-pub fn immediate_of(st: Station, card: u8, channel: u8) -> RecordFound
+pub fn immediate_of(st: Station, card: u8, channel: u8) -> Result<(ImmediateWords, u32), Refusal>
     ensures { FindsRecord st card channel result }
 {
-    let gate = enter(card, channel);
-    match gate {
-        Gate::Shut(why) => RecordFound::Refused(why),
-        Gate::Open(i) => {
-            let row = st.rows[i];
-            let four = row.immediate;
-            if !has_record(four) {
-                return RecordFound::Refused(Refusal::Nothing);
-            }
-            let s = four.strings;
-            RecordFound::Found(immediate_words(s), four.start)
-        }
+    let four = st.rows[enter(card, channel)?].immediate;
+    if has_record(four) {
+        Ok((immediate_words(four.strings), four.start))
+    } else {
+        Err(Refusal::Nothing)
     }
 }
 
 // The entry of a slot; the book's slots are numbered from 1.
-pub fn entry_of(st: Station, card: u8, slot: u8) -> EntryFound
+pub fn entry_of(st: Station, card: u8, slot: u8) -> Result<Entry, Refusal>
     ensures { FindsEntry st card slot result }
 {
     if !is_card(card) {
-        return EntryFound::Refused(Refusal::Card);
+        return Err(Refusal::Card);
     }
     if slot == 0 {
-        return EntryFound::Refused(Refusal::Slot);
+        return Err(Refusal::Slot);
     }
     if LAST_SLOT < slot {
-        return EntryFound::Refused(Refusal::Slot);
+        return Err(Refusal::Slot);
     }
     let b = st.book;
     let e = entry_in(b, slot);
     if e.day == 0 {
-        return EntryFound::Refused(Refusal::Nothing);
+        return Err(Refusal::Nothing);
     }
-    EntryFound::Found(e)
+    Ok(e)
 }
 
 // A channel's tallies.
-pub fn tallies_of(st: Station, card: u8, channel: u8) -> TalliesFound
+pub fn tallies_of(st: Station, card: u8, channel: u8) -> Result<Tallies, Refusal>
     ensures { FindsTallies st card channel result }
 {
-    let gate = enter(card, channel);
-    match gate {
-        Gate::Shut(why) => TalliesFound::Refused(why),
-        Gate::Open(i) => {
-            let row = st.rows[i];
-            let t = row.tallies;
-            TalliesFound::Found(t)
-        }
-    }
+    let t = st.rows[enter(card, channel)?].tallies;
+    Ok(t)
 }
 
 // How many slots are filled, the oldest day and the newest: as kept, with no walk.
-pub fn summary_of(st: Station, card: u8) -> SummaryFound
+pub fn summary_of(st: Station, card: u8) -> Result<Summary, Refusal>
     ensures { FindsSummary st card result }
 {
-    if !is_card(card) {
-        return SummaryFound::Refused(Refusal::Card);
+    if is_card(card) {
+        Ok(st.summary)
+    } else {
+        Err(Refusal::Card)
     }
-    let s = st.summary;
-    SummaryFound::Found(s)
 }
 
 // The health of the satellite that a channel's record is of.
-pub fn health_of(st: Station, card: u8, channel: u8) -> HealthFound
+pub fn health_of(st: Station, card: u8, channel: u8) -> Result<Health, Refusal>
     ensures { FindsHealth st card channel result }
 {
-    let gate = enter(card, channel);
-    match gate {
-        Gate::Shut(why) => HealthFound::Refused(why),
-        Gate::Open(i) => {
-            let row = st.rows[i];
-            let kept = row.immediate;
-            let b = st.book;
-            HealthFound::Found(health_by(kept, b))
-        }
-    }
+    let kept = st.rows[enter(card, channel)?].immediate;
+    Ok(health_by(kept, st.book))
 }
 
 // Without a record, or without a book entry for its n, it is unknown.

@@ -8,14 +8,11 @@ use native.Mathlib.Nat.{le_of_suc-le-suc, not-suc-le-zero, zero-lt-suc}
 use lib.Dec.{T, eqb, eqb_refl, T_not}
 use lib.ListN.{length, get_or, drop}
 use Rattle.strings.specs.declared.Refusal.{Refusal}
+use Rattle.std.specs.Prelude.{Result, Ok, Err, ⊤}
 use Rattle.strings.specs.declared.Refusal.TheVariants.{Channel, Shape, Damaged, Idle, Number, Early, Stale, OffBeat, Conflict, Range, Place, Room, Nothing, Slot, Owner, Card}
 use Rattle.strings.specs.declared.hamming.Damage.TheVariants.{Unplaced, Even, Outside}
 use Rattle.strings.specs.declared.Verdict.{Verdict}
 use Rattle.strings.specs.declared.Verdict.TheVariants.{Clean, Repaired}
-use Rattle.strings.specs.declared.Written.{Written}
-use Rattle.strings.specs.declared.Written.TheVariants.{Done, Refused as NotWritten}
-use Rattle.strings.specs.declared.Checked.{Checked}
-use Rattle.strings.specs.declared.Checked.TheVariants.{Taken, Refused as NotTaken}
 use Rattle.strings.specs.Pick.{pick}
 use Rattle.strings.specs.Numbers.{refusal_paper, verdict_paper, Test, first_of, place_of, said_by, answer_of, left_by, Answers, number_at, FitsAt, Exactly}
 use Rattle.strings.specs.Calls.{written_paper, checked_paper}
@@ -96,24 +93,24 @@ pub verdict_same : (v w : Verdict) → verdict_paper v ≡ verdict_paper w → v
 verdict_same v w e = sym (verdict_back v) ∙ ap verdict_of e ∙ verdict_back w
 
 -- ---- the answers of the calls
-abbrev written_of : List ℕ → Written
-written_of l = pick (eqb (get_or l 0 0) 0) Done (NotWritten (refusal_of l))
+abbrev written_of : List ℕ → Result ⊤ Refusal
+written_of l = pick (eqb (get_or l 0 0) 0) (Ok tt) (Err (refusal_of l))
 
-written_back : (w : Written) → written_of (written_paper w) ≡ w
-written_back Done = refl
-written_back (NotWritten r) = rw (refusal_known r).1 (ap NotWritten (refusal_known r).0)
+written_back : (w : Result ⊤ Refusal) → written_of (written_paper w) ≡ w
+written_back (Ok _) = refl
+written_back (Err r) = rw (refusal_known r).1 (ap Err (refusal_known r).0)
 
-pub written_same : (v w : Written) → written_paper v ≡ written_paper w → v ≡ w
+pub written_same : (v w : Result ⊤ Refusal) → written_paper v ≡ written_paper w → v ≡ w
 written_same v w e = sym (written_back v) ∙ ap written_of e ∙ written_back w
 
-abbrev checked_of : List ℕ → Checked
-checked_of l = pick (eqb (get_or l 0 0) 0) (Taken (verdict_of (drop 1 l))) (NotTaken (refusal_of l))
+abbrev checked_of : List ℕ → Result Verdict Refusal
+checked_of l = pick (eqb (get_or l 0 0) 0) (Ok (verdict_of (drop 1 l))) (Err (refusal_of l))
 
-checked_back : (c : Checked) → checked_of (checked_paper c) ≡ c
-checked_back (Taken v) = ap Taken (verdict_back v)
-checked_back (NotTaken r) = rw (refusal_known r).1 (ap NotTaken (refusal_known r).0)
+checked_back : (c : Result Verdict Refusal) → checked_of (checked_paper c) ≡ c
+checked_back (Ok v) = ap Ok (verdict_back v)
+checked_back (Err r) = rw (refusal_known r).1 (ap Err (refusal_known r).0)
 
-pub checked_same : (c d : Checked) → checked_paper c ≡ checked_paper d → c ≡ d
+pub checked_same : (c d : Result Verdict Refusal) → checked_paper c ≡ checked_paper d → c ≡ d
 checked_same c d e = sym (checked_back c) ∙ ap checked_of e ∙ checked_back d
 
 -- ---- each number exactly where its test fits and none before it does

@@ -9,9 +9,9 @@ use borrow.Author.Tests.{ne_eqb}
 use lib.Dec.{T, eqb, leb, leb→le, lit<}
 use lib.Pow.{shl_exact}
 use Rattle.strings.specs.declared.Verdict.{Verdict}
+use Rattle.strings.specs.declared.hamming.Damage.{Damage}
+use Rattle.std.specs.Prelude.{Result, Ok, Err}
 use Rattle.strings.specs.declared.Verdict.TheVariants.{Clean, Repaired}
-use Rattle.strings.specs.declared.hamming.Ruling.{Ruling}
-use Rattle.strings.specs.declared.hamming.Ruling.TheVariants.{Sound, Damaged}
 use Rattle.strings.specs.Hamming.{syndrome, sum_all, highest, sums_set, placed, judge, ruling, mended_by, mended, NamesBit}
 use Rattle.strings.proofs.Below.{and_left, and_right, below, below_at}
 use Rattle.strings.proofs.Digits.{flip_lt}
@@ -61,34 +61,34 @@ pub shifted : (k : ℕ) → k ≤ 7 → 1 * 2 ^ (k - 1) % 2 ^ 8 ≡ 2 ^ (k - 1)
 shifted k h = shl_exact {a = 1} 1 (k - 1) 8 (lit< tt) (omega arith) ∙ one-mul (2 ^ (k - 1))
 
 -- ---- the bit that a ruling names is one of the 85
-abbrev named_test : Ruling → Bool
-named_test (Sound Clean) = true
-named_test (Sound (Repaired i)) = leb 1 i && leb i 85
-named_test (Damaged d) = true
+abbrev named_test : Result Verdict Damage → Bool
+named_test (Ok Clean) = true
+named_test (Ok (Repaired i)) = leb 1 i && leb i 85
+named_test (Err d) = true
 
 names : T (below 2 (λ c. below 128 (λ s. named_test (judge s c))))
 unfolding judge placed highest sums_set
 names = tt
 
-named_verdict : (v : Verdict) → T (named_test (Sound v)) → NamesBit v
+named_verdict : (v : Verdict) → T (named_test (Ok v)) → NamesBit v
 named_verdict Clean t = tt
 named_verdict (Repaired i) t = (leb→le 1 i (and_left (leb 1 i) (leb i 85) t), leb→le i 85 (and_right (leb 1 i) (leb i 85) t))
 
-pub names_bit : (n : ℕ) (v : Verdict) → ruling n ≡ Sound v → NamesBit v
+pub names_bit : (n : ℕ) (v : Verdict) → ruling n ≡ Ok v → NamesBit v
 unfolding ruling
 names_bit n v e =
-    named_verdict v (subst (λ (r : Ruling). T (named_test r)) e
+    named_verdict v (subst (λ (r : Result Verdict Damage). T (named_test r)) e
     (below_at 128 (λ s. named_test (judge s (sum_all n))) (below_at 2 (λ c. below 128 (λ s. named_test (judge s c))) names (sum_all n) (sum_all_lt n)) (syndrome n) (syndrome_lt n)))
 
 -- the string as the check leaves it, by its verdict
-pub mended_by_lem : (n : ℕ) (v : Verdict) → ruling n ≡ Sound v → mended n ≡ mended_by (Sound v) n
+pub mended_by_lem : (n : ℕ) (v : Verdict) → ruling n ≡ Ok v → mended n ≡ mended_by (Ok v) n
 unfolding mended
-mended_by_lem n v e = ap (λ (r : Ruling). mended_by r n) e
+mended_by_lem n v e = ap (λ (r : Result Verdict Damage). mended_by r n) e
 
-mended_small : (n : ℕ) (r : Ruling) → n < 2 ^ 85 → ruling n ≡ r → mended_by r n < 2 ^ 85
-mended_small n (Sound Clean) h e = h
-mended_small n (Sound (Repaired i)) h e = let l = names_bit n (Repaired i) e in flip_lt 85 n i h l.0 l.1
-mended_small n (Damaged d) h e = h
+mended_small : (n : ℕ) (r : Result Verdict Damage) → n < 2 ^ 85 → ruling n ≡ r → mended_by r n < 2 ^ 85
+mended_small n (Ok Clean) h e = h
+mended_small n (Ok (Repaired i)) h e = let l = names_bit n (Repaired i) e in flip_lt 85 n i h l.0 l.1
+mended_small n (Err d) h e = h
 
 -- it is a string
 pub mended_lt : (n : ℕ) → n < 2 ^ 85 → mended n < 2 ^ 85

@@ -11,9 +11,9 @@ use lib.Dec.{T, eqb, eqb_refl, T_not}
 use lib.ListN.{get_or, drop}
 use native.Mathlib.Omega.{arith}
 use Rattle.strings.specs.Pick.{pick}
+use Rattle.std.specs.Prelude.{Err}
 use Rattle.strings.specs.declared.hamming.Damage.{Damage}
 use Rattle.strings.specs.declared.hamming.Damage.TheVariants.{Unplaced, Even, Outside}
-use Rattle.strings.specs.declared.hamming.Ruling.TheVariants.{Damaged}
 use Rattle.strings.specs.Hamming.{sum_all, syndrome, ruling, is_damaged, mended}
 use Rattle.strings.specs.Numbers.{damage_number, Test, test, first_of, place_of}
 use Rattle.strings.specs.Calls.{is_idle, damage_tests, sound_tests}
@@ -96,7 +96,7 @@ module _ (x : ℕ) where
       (rw (f.0, f.1.0, f.1.1, i.idle), rw (f.0, f.1.0, f.1.1, i.idle))
 
   -- A DAMAGED STRING is answered by the number of its cause, whatever stands after these tests
-  pub damaged_says : (d : Damage) → ruling x ≡ Damaged d → (ts : List Test)
+  pub damaged_says : (d : Damage) → ruling x ≡ Err d → (ts : List Test)
       → (first_of (sound_tests x ++ ts) ≡ damage_number d) × (place_of (sound_tests x ++ ts) ≡ [])
   unfolding sound_tests
   damaged_says d e ts =

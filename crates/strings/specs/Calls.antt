@@ -1,13 +1,10 @@
 -- The public check, with one relation between what it was handed, its answer and what it left in the output; and what other calls on strings
 -- share with it.
 -- Assumes nothing.
-use Rattle.std.specs.Prelude.{ℕ, ◌+◌, ◌-◌, Bool, not, ◌&&◌, List, [], ◌∷◌, ◌++◌, eqb, leb, ltb, length}
-use Rattle.strings.specs.declared.Checked.{Checked}
-use Rattle.strings.specs.declared.Checked.TheVariants.{Taken, Refused}
-use Rattle.strings.specs.declared.Written.{Written}
-use Rattle.strings.specs.declared.Written.TheVariants.{Done, Refused as Refused'}
-use Rattle.strings.specs.declared.hamming.Ruling.{Ruling}
-use Rattle.strings.specs.declared.hamming.Ruling.TheVariants.{Sound, Damaged}
+use Rattle.std.specs.Prelude.{ℕ, ◌+◌, ◌-◌, Bool, not, ◌&&◌, List, [], ◌∷◌, ◌++◌, eqb, leb, ltb, length, Result, Ok, Err, ⊤}
+use Rattle.strings.specs.declared.hamming.Damage.{Damage}
+use Rattle.strings.specs.declared.Refusal.{Refusal}
+use Rattle.strings.specs.declared.Verdict.{Verdict}
 use Rattle.strings.specs.Number.{number_of, misshapen, bit_of, bytes_of_string}
 use Rattle.strings.specs.Hamming.{sum_all, syndrome, sums_set, highest, ruling, mended}
 use Rattle.strings.specs.Numbers.{refusal_paper, verdict_paper, Test, test, Answers}
@@ -21,13 +18,13 @@ abbrev pub is_idle : ℕ → Bool
 is_idle n = eqb (bit_of n 85) 1
 
 -- ---- the answers in the paper's numbers: 0 where the call is taken
-abbrev pub written_paper : Written → List ℕ
-written_paper Done = 0 ∷ []
-written_paper (Refused' r) = refusal_paper r
+abbrev pub written_paper : Result ⊤ Refusal → List ℕ
+written_paper (Ok _) = 0 ∷ []
+written_paper (Err r) = refusal_paper r
 
-abbrev pub checked_paper : Checked → List ℕ
-checked_paper (Taken v) = 0 ∷ verdict_paper v
-checked_paper (Refused r) = refusal_paper r
+abbrev pub checked_paper : Result Verdict Refusal → List ℕ
+checked_paper (Ok v) = 0 ∷ verdict_paper v
+checked_paper (Err r) = refusal_paper r
 
 -- ---- "3 becomes 31 (S = 0, C = 1), 32 (S not 0, C = 0) and 33 (place above 85), all in 3's position": by the sums, S and C. 33 is of the strings whose
 -- repair would be at bit S+8-K, "C = 1, two or more set"
@@ -52,10 +49,10 @@ abbrev pub check_tests : List ℕ → List ℕ → List Test
 check_tests s out = test 12 (no_room out) ∷ string_tests s
 
 -- what a taken check tells: the verdict. A damaged string has none
-abbrev pub verdict_told : Ruling → List ℕ
-verdict_told (Sound v) = verdict_paper v
-verdict_told (Damaged d) = []
+abbrev pub verdict_told : Result Verdict Damage → List ℕ
+verdict_told (Ok v) = verdict_paper v
+verdict_told (Err d) = []
 
-unfoldable pub Checks : List ℕ → List ℕ → Checked → List ℕ → Type 0
+unfoldable pub Checks : List ℕ → List ℕ → Result Verdict Refusal → List ℕ → Type 0
 Checks s out r out' =
     Answers (check_tests s out) (verdict_told (ruling (number_of s))) (bytes_of_string (mended (number_of s))) out (checked_paper r) out'

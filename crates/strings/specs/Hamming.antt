@@ -1,12 +1,11 @@
 -- The check of a string: positions, sums, ruling and check bits (the paper, "Check positions"; ICD 4.7, Table 4.13).
 -- Assumes nothing.
-use Rattle.std.specs.Prelude.{ℕ, zero, suc, ◌+◌, ◌-◌, ◌*◌, ◌%◌, ◌^◌, ◌≤◌, ◌<◌, Bool, true, false, ◌&&◌, List, ◌≡◌, leb, eqb}
+use Rattle.std.specs.Prelude.{ℕ, zero, suc, ◌+◌, ◌-◌, ◌*◌, ◌%◌, ◌^◌, ◌≤◌, ◌<◌, Bool, true, false, ◌&&◌, List, ◌≡◌, leb, eqb, Result, Ok, Err}
+use Rattle.strings.specs.declared.hamming.Damage.{Damage}
 use Rattle.std.specs.Int.Bits.{bit_xor}
 use Rattle.strings.specs.declared.Verdict.{Verdict}
 use Rattle.strings.specs.declared.Verdict.TheVariants.{Clean, Repaired}
 use Rattle.strings.specs.declared.hamming.Damage.TheVariants.{Unplaced, Even, Outside}
-use Rattle.strings.specs.declared.hamming.Ruling.{Ruling}
-use Rattle.strings.specs.declared.hamming.Ruling.TheVariants.{Sound, Damaged}
 use Rattle.strings.specs.Pick.{pick}
 use Rattle.strings.specs.Number.{bit_of, number_from_bits, flip, bytes_of_string}
 
@@ -53,32 +52,32 @@ unfoldable pub highest : ℕ → ℕ
 highest s = highest_of 7 s
 
 -- "C = 1, two or more set: bit S+8-K is inverted .. if S+8-K is at most 85"
-unfoldable pub placed : ℕ → Ruling
-placed i = pick (leb i 85) (Sound (Repaired i)) (Damaged Outside)
+unfoldable pub placed : ℕ → Result Verdict Damage
+placed i = pick (leb i 85) (Ok (Repaired i)) (Err Outside)
 
 -- "S = 0 and C = 0: clean. C = 1, exactly one of C1..C7 set: that check bit is wrong and is repaired. C = 1, two or more set: bit S+8-K ..
 -- Everything else is DAMAGED": S not 0 with C = 0, and S = 0 with C = 1
-unfoldable pub judge : ℕ → ℕ → Ruling
+unfoldable pub judge : ℕ → ℕ → Result Verdict Damage
 judge s c =
-    pick (eqb s 0 && eqb c 0) (Sound Clean)
-    (pick (eqb c 1 && eqb (sums_set s) 1) (Sound (Repaired (highest s)))
+    pick (eqb s 0 && eqb c 0) (Ok Clean)
+    (pick (eqb c 1 && eqb (sums_set s) 1) (Ok (Repaired (highest s)))
     (pick (eqb c 1 && leb 2 (sums_set s)) (placed (s + 8 - highest s))
-    (pick (eqb c 0) (Damaged Even) (Damaged Unplaced))))
+    (pick (eqb c 0) (Err Even) (Err Unplaced))))
 
 -- the ruling on a string
-unfoldable pub ruling : ℕ → Ruling
+unfoldable pub ruling : ℕ → Result Verdict Damage
 ruling n = judge (syndrome n) (sum_all n)
 
 -- DAMAGED: "check rule"
-abbrev pub is_damaged : Ruling → Bool
-is_damaged (Sound v) = false
-is_damaged (Damaged d) = true
+abbrev pub is_damaged : Result Verdict Damage → Bool
+is_damaged (Ok v) = false
+is_damaged (Err d) = true
 
 -- what a ruling leaves of a string: the repair is made, and nothing else moves
-abbrev pub mended_by : Ruling → ℕ → ℕ
-mended_by (Sound Clean) n = n
-mended_by (Sound (Repaired i)) n = flip n i
-mended_by (Damaged d) n = n
+abbrev pub mended_by : Result Verdict Damage → ℕ → ℕ
+mended_by (Ok Clean) n = n
+mended_by (Ok (Repaired i)) n = flip n i
+mended_by (Err d) n = n
 
 -- the bit that a verdict names, where it names one, is a bit of a string
 abbrev pub NamesBit : Verdict → Type 0

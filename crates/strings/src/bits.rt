@@ -46,8 +46,8 @@ pub fn word_in(s: &[u8], top: u8, low: u8) -> u32
     if first == last {
         return bits >> below;
     }
-    for i in first + 1..last {
-        bits = bits * 256 + wide(s[i]);
+    for byte in &s[first + 1..last] {
+        bits = bits * 256 + wide(*byte);
     }
     (bits << (8 - below)) + (wide(s[last]) >> below)
 }

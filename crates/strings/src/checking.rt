@@ -5,45 +5,42 @@ ghost use Rattle.strings.specs.Hamming.{ruling, mended_by, NamesBit};
 ghost use Rattle.strings.specs.Calls.{Checks};
 
 use crate::bits::{bit, flip_bit, well_shaped};
-use crate::hamming::{Ruling, examine};
-use crate::{Checked, Refusal, Verdict};
+use crate::hamming::examine;
+use crate::{Refusal, Verdict};
 
 // Checks a plain string, and writes it as the check leaves it: as it came, or with one bit
 // repaired.
-pub fn check(s: &[u8], out: &mut [u8]) -> Checked
+pub fn check(s: &[u8], out: &mut [u8]) -> Result<Verdict, Refusal>
     ensures { Checks s.now out.old result out.new }
 {
     if out.len() != 11 {
-        return Checked::Refused(Refusal::Room);
+        return Err(Refusal::Room);
     }
     if !well_shaped(s) {
-        return Checked::Refused(Refusal::Shape);
+        return Err(Refusal::Shape);
     }
-    let found = examine(s);
-    match found {
-        Ruling::Damaged(d) => Checked::Refused(Refusal::Damaged(d)),
-        Ruling::Sound(v) => take(s, v, out),
-    }
+    let v = examine(s)?;
+    take(s, v, out)
 }
 
 // The rest of the check, for a string that is not damaged: IDLE, or the string as the verdict leaves
 // it.
-fn take(s: &[u8], v: Verdict, out: &mut [u8]) -> Checked
-    requires { (length out.old ≡ 11) × ((misshapen s.now ≡ false) × (ruling (number_of s.now) ≡ Ruling.Sound v)) }
+fn take(s: &[u8], v: Verdict, out: &mut [u8]) -> Result<Verdict, Refusal>
+    requires { (length out.old ≡ 11) × ((misshapen s.now ≡ false) × (ruling (number_of s.now) ≡ Ok v)) }
     ensures { Checks s.now out.old result out.new }
 {
     if idle_after(s, v) == 1 {
-        return Checked::Refused(Refusal::Idle);
+        return Err(Refusal::Idle);
     }
     out.copy_from_slice(s);
     mend(out, v);
-    Checked::Taken(v)
+    Ok(v)
 }
 
 // The idle bit, bit 85, as the verdict leaves it.
 fn idle_after(s: &[u8], v: Verdict) -> u8
     requires { (length s.now ≡ 11) × NamesBit v }
-    ensures { result ≡ bit_of (mended_by (Ruling.Sound v) (number_of s.now)) 85 }
+    ensures { result ≡ bit_of (mended_by (Ok v) (number_of s.now)) 85 }
 {
     let b = bit(s, 85);
     match v {
@@ -55,7 +52,7 @@ fn idle_after(s: &[u8], v: Verdict) -> u8
 // Makes the repair that a verdict names.
 fn mend(s: &mut [u8], v: Verdict)
     requires { (length s.old ≡ 11) × NamesBit v }
-    ensures { (number_of s.new ≡ mended_by (Ruling.Sound v) (number_of s.old)) × (padding_of s.new ≡ padding_of s.old) }
+    ensures { (number_of s.new ≡ mended_by (Ok v) (number_of s.old)) × (padding_of s.new ≡ padding_of s.old) }
 {
     match v {
         Verdict::Clean => {}

@@ -16,13 +16,6 @@ pub enum Damage {
     Outside,
 }
 
-// What the sums say of a string.
-#[derive(Clone, Copy)]
-pub enum Ruling {
-    Sound(Verdict),
-    Damaged(Damage),
-}
-
 // C7..C1 read as the number S, and C.
 #[derive(Clone, Copy)]
 struct Sums {
@@ -104,39 +97,39 @@ fn highest_of(s: u8) -> u8
 }
 
 // A repair at bit i, where there is such a bit.
-fn place(i: u8) -> Ruling
+fn place(i: u8) -> Result<Verdict, Damage>
     ensures { result ≡ placed i }
 {
     if i <= 85 {
-        Ruling::Sound(Verdict::Repaired(i))
+        Ok(Verdict::Repaired(i))
     } else {
-        Ruling::Damaged(Damage::Outside)
+        Err(Damage::Outside)
     }
 }
 
 // What the sums say: the paper's cases, in its order.
-fn judge_sums(s: u8, c: u8) -> Ruling
+fn judge_sums(s: u8, c: u8) -> Result<Verdict, Damage>
     requires { (s < 128) × (c < 2) }
     ensures { result ≡ judge s c }
 {
     if c == 0 {
         if s == 0 {
-            return Ruling::Sound(Verdict::Clean);
+            return Ok(Verdict::Clean);
         }
-        return Ruling::Damaged(Damage::Even);
+        return Err(Damage::Even);
     }
     if s == 0 {
-        return Ruling::Damaged(Damage::Unplaced);
+        return Err(Damage::Unplaced);
     }
     let k = highest_of(s);
     if s == 1 << (k - 1) {
-        return Ruling::Sound(Verdict::Repaired(k));
+        return Ok(Verdict::Repaired(k));
     }
     place(s + 8 - k)
 }
 
 // The ruling on a string.
-pub fn examine(s: &[u8]) -> Ruling
+pub fn examine(s: &[u8]) -> Result<Verdict, Damage>
     requires { length s.now ≡ 11 }
     ensures { result ≡ ruling (number_of s.now) }
 {

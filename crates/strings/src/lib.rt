@@ -10,7 +10,7 @@ mod numbers;
 
 pub use bits::{bit, flip_bit, well_shaped, word_in};
 pub use checking::check;
-pub use hamming::{Damage, Ruling, make_check_bits};
+pub use hamming::{Damage, make_check_bits};
 pub use numbers::{refusal_number, wide};
 
 // The numbers that say no, in the paper's order. DAMAGED has a number for each cause. RANGE tells its
@@ -35,23 +35,10 @@ pub enum Refusal {
     Card,
 }
 
-// What the check says of a string that it takes: as it came, or with the bit that it repaired.
+// What the check says of a string that it takes: as it came, or with the bit that it repaired. No Option,
+// since None would not say that a string is clean.
 #[derive(Clone, Copy)]
 pub enum Verdict {
     Clean,
     Repaired(u8),
-}
-
-// The check's answer.
-#[derive(Clone, Copy)]
-pub enum Checked {
-    Taken(Verdict),
-    Refused(Refusal),
-}
-
-// The answer of a call that only writes.
-#[derive(Clone, Copy)]
-pub enum Written {
-    Done,
-    Refused(Refusal),
 }

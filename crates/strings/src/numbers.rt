@@ -1,5 +1,6 @@
 // A refusal in the paper's numbers, and a byte as a longer number.
 ghost use Rattle.std.specs.Prelude.{◌≡◌, ◌<◌, get_or};
+ghost use Rattle.strings.specs.declared.Refusal.TheVariants.{Damaged};
 ghost use Rattle.strings.specs.Numbers.{damage_number, refusal_paper};
 
 use crate::{Damage, Refusal};
@@ -25,6 +26,15 @@ pub fn refusal_number(r: Refusal) -> u8
         Refusal::Slot => 14,
         Refusal::Owner => 15,
         Refusal::Card => 16,
+    }
+}
+
+// A damaged string is refused with its damage.
+impl From<Damage> for Refusal {
+    ghost from_gives = { λ d r. r ≡ Damaged d };
+
+    fn from(d: Damage) -> Refusal {
+        Refusal::Damaged(d)
     }
 }
 

@@ -1,4 +1,4 @@
--- What holds of a walk's summary s when i lines of es are passed, by value or lent (Passed): at the start (begins), after a line more (goes_on), and at the end (ends).
+-- What holds of a walk's summary s when i lines of es are passed (Passed): at the start (begins), after a line more (goes_on), and at the end (ends).
 -- Assumes nothing.
 use Prim.Native.Nat.{ℕ, suc, ◌+◌, ◌<◌, ◌≤◌}
 use native.Mathlib.Omega.{arith}

@@ -11,10 +11,8 @@ pub fn walk_lent(book: &[Entry]) -> Summary
     ensures { result ≡ walk_of book.now }
 {
     let mut s = none_filled();
-    let mut i: usize = 0;
-    while i < book.len() {
-        s = with_line(s, book[i]);
-        i += 1;
+    for e in book {
+        s = with_line(s, *e);
     }
     s
 }

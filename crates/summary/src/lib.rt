@@ -8,7 +8,8 @@ mod walking;
 pub use lending::{walk_book, walk_lent};
 pub use walking::walk;
 
-// How many lines hold an entry, the oldest of their days and the newest: 0, 0, 0 where none does.
+// How many lines hold an entry, the oldest of their days and the newest: 0, 0, 0 where none does, for
+// C too.
 #[repr(C)]
 #[derive(Clone, Copy)]
 pub struct Summary {

@@ -9,9 +9,8 @@ use borrow.Author.Tests.{eq-eqb, ne_eqb, eqb-true, not-false}
 use lib.Dec.{T, eqb}
 use lib.ListN.{length}
 use Rattle.strings.specs.Number.{bytes_of_string}
+use Rattle.std.specs.Prelude.{Result, Ok, Err, ⊤}
 use Rattle.strings.specs.declared.Refusal.{Refusal}
-use Rattle.strings.specs.declared.Written.{Written}
-use Rattle.strings.specs.declared.Written.TheVariants.{Done, Refused}
 use Rattle.strings.proofs.Below.{below, below_at}
 use Rattle.records.specs.declared.named.Record.{Record}
 use Rattle.records.specs.Records.{kind_of, list_of}
@@ -41,18 +40,18 @@ module _ (sky : Sky) where
 
 -- ---- the encoder's answer
 module _ (m : ℕ) (r : Record) (out : List ℕ) (long : length out ≡ 11) (k : of_kind (kind_of r) m ≡ true) where
-  refused_is : (q : Refusal) (out' : List ℕ) → Writes m r out (Refused q) out' → eqb (first_bad (layout (kind_of r)) (list_of r)) 0 ≡ false
+  refused_is : (q : Refusal) (out' : List ℕ) → Writes m r out (Err q) out' → eqb (first_bad (layout (kind_of r)) (list_of r)) 0 ≡ false
   refused_is q out' a =
       ne_eqb _ 0
-      (λ e. let w = (write_once m r out (Refused q) Done out' _ a (writes m r out (bytes_of_string (string_of m r)) (record { room = long; place = k; range = e; output = refl }))).0 in
+      (λ e. let w = (write_once m r out (Err q) (Ok tt) out' _ a (writes m r out (bytes_of_string (string_of m r)) (record { room = long; place = k; range = e; output = refl }))).0 in
       let z : ◌≡◌ {A = ℕ} 0 1 = cc in omega arith)
 
-  pub refused_by : (w : Written) (out' : List ℕ) → Writes m r out w out' → not (eqb (first_bad (layout (kind_of r)) (list_of r)) 0) ≡ is_refused w
-  refused_by Done out' a = ap not (eq-eqb _ 0 (is_written m r out out' a).range)
-  refused_by (Refused q) out' a = ap not (refused_is q out' a)
+  pub refused_by : (w : Result ⊤ Refusal) (out' : List ℕ) → Writes m r out w out' → not (eqb (first_bad (layout (kind_of r)) (list_of r)) 0) ≡ is_refused w
+  refused_by (Ok _) out' a = ap not (eq-eqb _ 0 (is_written m r out out' a).range)
+  refused_by (Err q) out' a = ap not (refused_is q out' a)
 
-  pub written_as : (w : Written) (out' : List ℕ) → first_bad (layout (kind_of r)) (list_of r) ≡ 0 → Writes m r out w out' → out' ≡ bytes_of_string (string_of m r)
-  written_as w out' e a = (write_once m r out w Done out' _ a (writes m r out (bytes_of_string (string_of m r)) (record { room = long; place = k; range = e; output = refl }))).1
+  pub written_as : (w : Result ⊤ Refusal) (out' : List ℕ) → first_bad (layout (kind_of r)) (list_of r) ≡ 0 → Writes m r out w out' → out' ≡ bytes_of_string (string_of m r)
+  written_as w out' e a = (write_once m r out w (Ok tt) out' _ a (writes m r out (bytes_of_string (string_of m r)) (record { room = long; place = k; range = e; output = refl }))).1
 
 -- ---- string i, of the words r
 module _ (sky : Sky) (i : ℕ) (l : 1 ≤ i) (u : i ≤ 75) (r : Record) (is : r ≡ record_in sky (frame_at i) (string_number i)) where
@@ -60,7 +59,7 @@ module _ (sky : Sky) (i : ℕ) (l : 1 ≤ i) (u : i ≤ 75) (r : Record) (is : r
   kind_at = ap (λ (x : Record). of_kind (kind_of x) (string_number i)) is ∙ of_its_kind sky (frame_at i) (string_number i) (omega arith) (omega arith) (omega arith)
 
   -- whether it is refused
-  pub bad_is : (out out' : List ℕ) (w : Written) → length out ≡ 11 → Writes (string_number i) r out w out'
+  pub bad_is : (out out' : List ℕ) (w : Result ⊤ Refusal) → length out ≡ 11 → Writes (string_number i) r out w out'
       → string_bad sky i ≡ (is_refused w || (eqb i 5 && is_number sky.five.n4 0))
   unfolding string_bad
   bad_is out out' w long a =
@@ -78,7 +77,7 @@ module _ (sky : Sky) (i : ℕ) (l : 1 ≤ i) (u : i ≤ 75) (r : Record) (is : r
       ∙ eqb-true _ 0 (not-false _ (or_first (words_bad sky (frame_at i) (string_number i)) (eqb i 5 && is_number sky.five.n4 0) e))
 
   -- what is written where it is not
-  pub string_is : (out out' : List ℕ) (w : Written) → length out ≡ 11 → Writes (string_number i) r out w out' → string_bad sky i ≡ false
+  pub string_is : (out out' : List ℕ) (w : Result ⊤ Refusal) → length out ≡ 11 → Writes (string_number i) r out w out' → string_bad sky i ≡ false
       → out' ≡ bytes_of_string (sky_string sky i)
   unfolding sky_string
   string_is out out' w long a e =

@@ -1,13 +1,21 @@
--- What the two refusals of words mean: refusals. And how the code's loops come by them.
+-- What the two refusals of words mean: refusals. And how the code's searches come by them.
 -- Assumes nothing.
 use mathlib.Core.Path.{◌≡◌, refl, sym, ap, ap₂, subst, ◌∙◌}
 use mathlib.Core.Bool.{Bool, true, false, not, ◌&&◌, ◌||◌, true≢false}
-use Prim.Native.Nat.{ℕ, zero, suc, ◌+◌, ◌-◌, ◌*◌, ◌/◌, ◌%◌, ◌≤◌}
+use Prim.Native.Nat.{ℕ, zero, suc, ◌+◌, ◌-◌, ◌*◌, ◌/◌, ◌%◌, ◌≤◌, ◌<◌}
 use native.Mathlib.Omega.{arith}
 use borrow.Author.Tests.{eq-eqb, eqb-true, eqb-false, not-false, ltb-true, ltb-false}
 use lib.Dec.{eqb, ltb}
 use lib.IntN.{ℤ, pos, negsuc, nat_abs}
 use lib.Signed.{lt_z}
+use lib.ListN.{get_or}
+use mathlib.Core.List.{List}
+use Rattle.std.specs.Bool.{MatchBool}
+use Rattle.std.specs.List.{range_with_len, AllWithin, HoldsAt}
+use Rattle.std.specs.Option.{MatchOption, unwrap_or}
+use Rattle.std.specs.declared.option.Option.{Option}
+use Rattle.std.specs.declared.option.Option.TheVariants.{None, Some}
+use Rattle.std.proofs.lemmas.List.FromFn.{get_or-range_with_len}
 use Rattle.strings.specs.Pick.{pick}
 use Rattle.records.specs.Records.{list_of}
 use Rattle.records.specs.declared.kinds.Kind.TheVariants.{Five, Odd}
@@ -75,25 +83,31 @@ right_slots sky (suc n) h =
     none_or (wrong_slot sky n) _ (right_slots sky n (λ k a b. h k a (omega arith))) (ap not (is_number_lem (entry_at sky (suc n)).even.na (suc n) (h (suc n) (omega arith) (omega arith))))
 
 -- a slot that is wrong stays so
-pub wrong_here : (sky : Sky) (k : ℕ) → 1 ≤ k → wrong_slot sky (k - 1) ≡ false → is_number (entry_at sky k).even.na k ≡ false → (n : ℕ) → k ≤ n → wrong_slot sky n ≡ true
-wrong_here sky k a e f n b = by (wrong_slot sky n) refl
+wrong_here : (sky : Sky) (k : ℕ) → 1 ≤ k → is_number (entry_at sky k).even.na k ≡ false → (n : ℕ) → k ≤ n → wrong_slot sky n ≡ true
+wrong_here sky k a f n b = by (wrong_slot sky n) refl
   where
     by : (t : Bool) → wrong_slot sky n ≡ t → t ≡ true
     by true q = refl
     by false q = absurd (true≢false (sym (is_number_lem _ k (slots_right sky n q k a b)) ∙ f))
 
-pub right_none : (sky : Sky) → wrong_slot sky (1 - 1) ≡ false
-unfolding wrong_slot
-right_none sky = refl
+-- the code's question of 1 to 24
+abbrev pub carries : Sky → ℕ → Bool
+carries sky k = is_number (entry_at sky k).even.na k
 
-pub right_more : (sky : Sky) (k : ℕ) → 1 ≤ k → wrong_slot sky (k - 1) ≡ false → is_number (entry_at sky k).even.na k ≡ true → wrong_slot sky (k + 1 - 1) ≡ false
-right_more sky k a e f =
-    let p : k + 1 - 1 ≡ suc (k - 1) = omega arith in
-    let q : k ≡ suc (k - 1) = omega arith in
-    ap (wrong_slot sky) p ∙ next sky (k - 1) e (sym (ap (λ (i : ℕ). is_number (entry_at sky i).even.na i) q) ∙ f)
+abbrev asked : List ℕ
+asked = range_with_len 1 24
+
+pub slots_found : (sky : Sky) (r : Bool) → MatchBool r (AllWithin (λ k. carries sky k ≡ true) asked 0 24) ((k : ℕ) × (k < 24) × HoldsAt (λ k. carries sky k ≡ false) asked k) → r ≡ not (wrong_slot sky 24)
+slots_found sky true h = sym (ap not (right_slots sky 24 all))
   where
-    next : (sky : Sky) (n : ℕ) → wrong_slot sky n ≡ false → is_number (entry_at sky (suc n)).even.na (suc n) ≡ true → wrong_slot sky (suc n) ≡ false
-    next sky n e f = right_slots sky (suc n) (split (λ k. (entry_at sky k).even.na ≡ pos k) n (slots_right sky n e) (number_is _ (suc n) f))
+    all : (k : ℕ) → 1 ≤ k → k ≤ 24 → (entry_at sky k).even.na ≡ pos k
+    all k a b =
+        let e : get_or asked (k - 1) 0 ≡ k = get_or-range_with_len 1 24 (k - 1) 0 (omega arith) ∙ omega arith in
+        number_is (entry_at sky k).even.na k (subst (λ (i : ℕ). carries sky i ≡ true) e (h (k - 1) 0 (omega arith) (omega arith)))
+slots_found sky false h =
+    let k = h.0 in
+    let f = subst (λ (i : ℕ). carries sky i ≡ false) (get_or-range_with_len 1 24 k 0 h.1) (h.2 0) in
+    sym (ap not (wrong_here sky (1 + k) (omega arith) f 24 (omega (arith, h.1))))
 
 -- ---- 10
 lowest_by : (l n : ℕ) (s : Bool) → pick (eqb l 0) (pick s (suc n) 0) l ≡ 0 → (l ≡ 0) × (s ≡ false)
@@ -137,28 +151,23 @@ lowest_most sky n = by (eqb (lowest_bad sky n) 0) refl
     by false q = (lowest_told sky n (eqb-false (lowest_bad sky n) 0 q)).most
 
 -- the first that is refused is the lowest, however many follow
-pub lowest_here : (sky : Sky) (i : ℕ) → 1 ≤ i → lowest_bad sky (i - 1) ≡ 0 → string_bad sky i ≡ true → (n : ℕ) → i ≤ n → i ≡ lowest_bad sky n
-lowest_here sky i a e f n b = by (ltb (lowest_bad sky n) i) (ltb i (lowest_bad sky n)) refl refl
+lowest_here : (sky : Sky) (i : ℕ) → 1 ≤ i → ((j : ℕ) → 1 ≤ j → j < i → string_bad sky j ≡ false) → string_bad sky i ≡ true → (n : ℕ) → i ≤ n → i ≡ lowest_bad sky n
+lowest_here sky i a none f n b = by (ltb (lowest_bad sky n) i) (ltb i (lowest_bad sky n)) refl refl
   where
     some : lowest_bad sky n ≡ 0 → ⊥
     some z = true≢false (sym f ∙ none_bad sky n z i a b)
 
     by : (s t : Bool) → ltb (lowest_bad sky n) i ≡ s → ltb i (lowest_bad sky n) ≡ t → i ≡ lowest_bad sky n
-    by true t p q =
-        let o = lowest_told sky n some in
-        absurd (true≢false (sym o.bad ∙ none_bad sky (i - 1) e (lowest_bad sky n) o.least (omega (arith, ltb-true (lowest_bad sky n) i p))))
+    by true t p q = let o = lowest_told sky n some in absurd (true≢false (sym o.bad ∙ none (lowest_bad sky n) o.least (ltb-true (lowest_bad sky n) i p)))
     by false true p q = let o = lowest_told sky n some in absurd (true≢false (sym f ∙ o.none i a (ltb-true i (lowest_bad sky n) q)))
     by false false p q = omega (arith, ltb-false (lowest_bad sky n) i p, ltb-false i (lowest_bad sky n) q)
 
-pub low_none : (sky : Sky) → lowest_bad sky (1 - 1) ≡ 0
-unfolding lowest_bad
-low_none sky = refl
-
-pub low_more : (sky : Sky) (i : ℕ) → 1 ≤ i → lowest_bad sky (i - 1) ≡ 0 → string_bad sky i ≡ false → lowest_bad sky (i + 1 - 1) ≡ 0
-low_more sky i a e f =
-    let p : i + 1 - 1 ≡ suc (i - 1) = omega arith in
-    let q : i ≡ suc (i - 1) = omega arith in
-    ap (lowest_bad sky) p ∙ bad_none sky (suc (i - 1)) (split (λ j. string_bad sky j ≡ false) (i - 1) (none_bad sky (i - 1) e) (subst (λ (j : ℕ). string_bad sky j ≡ false) q f))
+-- the code's search of 1 to 75
+pub lowest_found : (sky : Sky) (r : Option ℕ)
+    → MatchOption r ((k : ℕ) → 1 ≤ k → k < 76 → string_bad sky k ≡ false) (λ i. (1 ≤ i) × (i < 76) × (string_bad sky i ≡ true) × ((k : ℕ) → 1 ≤ k → k < i → string_bad sky k ≡ false))
+    → unwrap_or r 0 ≡ lowest_bad sky 75
+lowest_found sky None h = sym (bad_none sky 75 (λ i a b. h i a (omega arith)))
+lowest_found sky (Some i) h = lowest_here sky i h.0 h.3 h.2 75 (omega (arith, h.1))
 
 -- a string that is not refused, where none is
 pub none_told : (sky : Sky) → lowest_bad sky 75 ≡ 0 → (i : ℕ) → 1 ≤ i → i ≤ 75 → string_bad sky i ≡ false

@@ -1,9 +1,8 @@
 -- Which words are refused (request 12): "18 when the entries are not slots 1..24 in order; 10 with the string's place 1..75, also for N4 = 0".
 -- Assumes nothing.
-use Rattle.std.specs.Prelude.{ℕ, zero, suc, ◌≤◌, ◌<◌, Bool, true, false, not, ◌&&◌, ◌||◌, ◌≡◌, eqb, ℤ, pos, negsuc}
+use Rattle.std.specs.Prelude.{ℕ, zero, suc, ◌≤◌, ◌<◌, Bool, true, false, not, ◌&&◌, ◌||◌, ◌≡◌, eqb, ℤ, pos, negsuc, Result, Ok, Err, ⊤}
+use Rattle.strings.specs.declared.Refusal.{Refusal}
 use Rattle.strings.specs.Pick.{pick}
-use Rattle.strings.specs.declared.Written.{Written}
-use Rattle.strings.specs.declared.Written.TheVariants.{Done, Refused}
 use Rattle.records.specs.Records.{kind_of, list_of}
 use Rattle.layout.specs.Layout.{layout}
 use Rattle.words.specs.Values.{first_bad}
@@ -34,9 +33,9 @@ lowest_bad sky zero = 0
 lowest_bad sky (suc n) = pick (eqb (lowest_bad sky n) 0) (pick (string_bad sky (suc n)) (suc n) 0) (lowest_bad sky n)
 
 -- an answer of the encoder says no
-abbrev pub is_refused : Written → Bool
-is_refused Done = false
-is_refused (Refused r) = true
+abbrev pub is_refused : Result ⊤ Refusal → Bool
+is_refused (Ok _) = false
+is_refused (Err r) = true
 
 -- ---- what it means. Words that are not refused: entry k carries nA k, the encoder takes every string, and N4 is stated
 pub record Makes (sky : Sky) : Type 0 where

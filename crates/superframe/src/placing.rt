@@ -110,6 +110,6 @@ pub fn string_in(sky: Sky, i: usize) -> [u8; 11]
     let m = (i - 1) % 15 + 1;
     let r = record_in(sky, g, m);
     let mut out = [0u8; 11];
-    words::write_words(m as u8, r, &mut out);
+    let _ = words::write_words(m as u8, r, &mut out);
     out
 }

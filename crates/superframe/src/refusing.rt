@@ -5,7 +5,7 @@ ghost use Rattle.superframe.specs.Refused.{is_number, wrong_slot, is_refused, st
 
 use crate::Sky;
 use crate::placing::record_in;
-use strings::Written;
+use strings::Refusal;
 
 // Whether a word has the value k. A negative word has none.
 fn is_number(z: i32, k: usize) -> bool
@@ -32,23 +32,16 @@ fn is_slot(sky: Sky, k: usize) -> bool
 pub fn in_order(sky: Sky) -> bool
     ensures { result ≡ not (wrong_slot sky 24) }
 {
-    let mut k: usize = 1;
-    while k < 25 {
-        if !is_slot(sky, k) {
-            return false;
-        }
-        k += 1;
-    }
-    true
+    (1..25).all(|k| is_slot(sky, k))
 }
 
 // Whether an answer says no.
-fn is_refused(w: Written) -> bool
+fn is_refused(w: Result<(), Refusal>) -> bool
     ensures { result ≡ is_refused w }
 {
     match w {
-        Written::Done => false,
-        Written::Refused(_) => true,
+        Ok(()) => false,
+        Err(_) => true,
     }
 }
 
@@ -72,16 +65,10 @@ fn is_bad(sky: Sky, i: usize) -> bool
     false
 }
 
-// The lowest string that is refused; 0 where none is.
+// The lowest string that is refused; 0 where none is, as in `lowest_bad` of specs/Refused.antt, of which the
+// theorems speak.
 pub fn lowest_bad(sky: Sky) -> usize
     ensures { result ≡ lowest_bad sky 75 }
 {
-    let mut i: usize = 1;
-    while i < 76 {
-        if is_bad(sky, i) {
-            return i;
-        }
-        i += 1;
-    }
-    0
+    (1..76).find(|i| is_bad(sky, *i)).unwrap_or(0)
 }

@@ -5,9 +5,9 @@ use mathlib.Core.List.{[], ◌∷◌}
 use mathlib.Core.Path.{◌≡◌, refl}
 use lib.ListN.{get_or}
 use Rattle.strings.specs.declared.Refusal.{Refusal}
+use Rattle.std.specs.Prelude.{Ok}
 use Rattle.strings.specs.declared.Refusal.TheVariants.{Channel, Shape, Damaged, Idle, Number, Early, Stale, OffBeat, Conflict, Range, Place, Room, Nothing, Slot, Owner, Card}
 use Rattle.strings.specs.declared.Verdict.{Verdict}
-use Rattle.strings.specs.declared.Checked.TheVariants.{Taken}
 use Rattle.strings.specs.Numbers.{refusal_paper, verdict_paper}
 use Rattle.strings.specs.Calls.{checked_paper}
 use Rattle.told.specs.Told.{packed}
@@ -32,5 +32,5 @@ refusal_packed Owner = refl
 refusal_packed Card = refl
 
 -- a taken check tells 0, and its verdict
-pub taken_packed : (v : Verdict) (n : ℕ) → n ≡ packed (verdict_paper v) → 256 * n ≡ packed (checked_paper (Taken v))
+pub taken_packed : (v : Verdict) (n : ℕ) → n ≡ packed (verdict_paper v) → 256 * n ≡ packed (checked_paper (Ok v))
 taken_packed v n e = omega (arith, e)

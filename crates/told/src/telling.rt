@@ -4,25 +4,25 @@ ghost use Rattle.strings.specs.Numbers.{refusal_paper, verdict_paper};
 ghost use Rattle.strings.specs.Calls.{written_paper, checked_paper};
 ghost use Rattle.told.specs.Told.{packed};
 
-use strings::{Checked, Refusal, Verdict, Written};
+use strings::{Refusal, Verdict};
 
 // What became of an output: 0, or the refusal's numbers.
-pub fn written_told(w: Written) -> u64
+pub fn written_told(w: Result<(), Refusal>) -> u64
     ensures { result ≡ packed (written_paper w) }
 {
     match w {
-        Written::Done => 0,
-        Written::Refused(why) => refusal_told(why) as u64,
+        Ok(()) => 0,
+        Err(why) => refusal_told(why) as u64,
     }
 }
 
 // What a check answers: 0 and the verdict's numbers, or the refusal's.
-pub fn checked_told(c: Checked) -> u32
+pub fn checked_told(c: Result<Verdict, Refusal>) -> u32
     ensures { result ≡ packed (checked_paper c) }
 {
     match c {
-        Checked::Taken(v) => 256 * (verdict_told(v) as u32),
-        Checked::Refused(why) => refusal_told(why) as u32,
+        Ok(v) => 256 * (verdict_told(v) as u32),
+        Err(why) => refusal_told(why) as u32,
     }
 }
 
@@ -43,7 +43,7 @@ pub fn refusal_told(why: Refusal) -> u16
     pair(strings::refusal_number(why), place_in(why))
 }
 
-// The place, 0 where there is none.
+// The place, 0 where there is none: C is told one number.
 fn place_in(why: Refusal) -> u8
     ensures { result ≡ get_or (refusal_paper why) 1 0 }
 {

@@ -5,8 +5,6 @@ pub mod Works
 pub mod Moves
 pub mod Turning
 pub mod Written
-pub mod Down
-pub mod Looping
 pub mod Once
 pub mod Whole
 pub mod Records

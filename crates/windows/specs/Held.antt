@@ -14,9 +14,8 @@ pub record Holds (size : ℕ) (held : Held) : Type 0 where
 abbrev pub Passing : Bool → ℕ → Type 0
 Passing more passed = more ≡ true → 0 < passed
 
--- after a turn; it passes a byte, or is the last
+-- after a turn that is not the last; it passed a byte
 pub record Follows (size : ℕ) (held r : Held) : Type 0 where
   pub count : r.count ≤ size
   pub began : Began r.stands r.first
-  pub onward : held.first ≤ r.first
-  pub further : r.more ≡ true → held.first < r.first
+  pub further : held.first < r.first

@@ -16,7 +16,8 @@ pub enum Wanted {
     Records,
 }
 
-// Where the work stands: between two items, or within a stretch that began at this byte of the file.
+// Where the work stands: between two items, or within a stretch that began at this byte of the file. No
+// Option, since None would not say between two items.
 #[derive(Clone, Copy)]
 pub enum Stands {
     Between,

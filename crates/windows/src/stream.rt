@@ -1,5 +1,5 @@
 // Standard input salvaged to standard output. One window of it is held at a time.
-ghost use Rattle.std.specs.Prelude.{◌≡◌, ◌+◌, ◌≤◌, length, take, drop};
+ghost use Rattle.std.specs.Prelude.{◌≡◌, ◌+◌, ◌≤◌, IfSome, length, take, drop};
 ghost use Rattle.windows.specs.Held.{Holds, Follows, Passing};
 
 use crate::window::salvage_window;
@@ -15,14 +15,13 @@ const OUT: usize = 262144;
 // No file is as long as this, so that every place in it is a number of 64 bits.
 const LIMIT: usize = 9223372036854775808;
 
-// The place in the file of the window's first byte, how many bytes of the window are there, where the
-// work stands, and whether there is more to do.
+// The place in the file of the window's first byte, how many bytes of the window are there, and where the
+// work stands.
 #[derive(Clone, Copy)]
 struct Held {
     first: usize,
     count: usize,
     stands: Stands,
-    more: bool,
 }
 
 // What is wanted of standard input, of any length. It returns nothing, and a contract cannot speak of
@@ -34,54 +33,49 @@ pub fn salvage_input<R: Input + Print>(rt: &R, wanted: Wanted) {
         first: 0,
         count: 0,
         stands: Stands::Between,
-        more: true,
     };
-    while held.more && held.first < LIMIT {
-        let next = turn_over(rt, wanted, &mut window, &mut out, held);
+    while held.first < LIMIT {
+        let Some(next) = pass_window(rt, wanted, &mut window, &mut out, held) else {
+            return;
+        };
         held = next;
     }
 }
 
-// They are slices below, because a part of an array behind a reference cannot be lent.
-fn turn_over<R: Input + Print>(
+// Fills the window, works on it, and prints. Where the window is not full the file has ended. None where
+// there is nothing more to do.
+fn pass_window<R: Input + Print>(
     rt: &R,
     wanted: Wanted,
     window: &mut [u8; WINDOW],
     out: &mut [u8; OUT],
     held: Held,
-) -> Held
+) -> Option<Held>
     requires { Holds 262144 held }
-    ensures { Follows 262144 held result }
-{
-    pass_window(rt, wanted, window, out, held)
-}
-
-// Fills the window, works on it, and prints. Where the window is not full the file has ended.
-fn pass_window<R: Input + Print>(
-    rt: &R,
-    wanted: Wanted,
-    window: &mut [u8],
-    out: &mut [u8],
-    held: Held,
-) -> Held
-    requires { (length window.old ≤ 262144) × Holds (length window.old) held }
-    ensures { Follows (length window.old) held result }
+    ensures { IfSome result (Follows 262144 held) }
 {
     let filled = fill(rt, window, held.count);
-    let last = filled < window.len();
-    let stands = held.stands;
-    let turn = salvage_window(wanted, &window[..filled], last, held.first, stands, out);
+    let last = filled < WINDOW;
+    let turn = salvage_window(
+        wanted,
+        &window[..filled],
+        last,
+        held.first,
+        held.stands,
+        out,
+    );
     let end = turn.written;
     let is_written = write_all(rt, &out[..end]);
-    move_down(window, turn.passed, filled - turn.passed);
-    let more = is_written && is_more(last, filled, turn);
-    let next = turn.stands;
-    Held {
-        first: held.first + turn.passed,
-        count: filled - turn.passed,
-        stands: next,
-        more,
+    if !is_written || !is_more(last, filled, turn) {
+        return None;
     }
+    let count = filled - turn.passed;
+    move_down(window, turn.passed, count);
+    Some(Held {
+        first: held.first + turn.passed,
+        count,
+        stands: turn.stands,
+    })
 }
 
 // Reads until the window is full or the file ends, and answers how many bytes are then there.
@@ -97,18 +91,7 @@ fn fill<R: Input>(rt: &R, window: &mut [u8], count: usize) -> usize
 fn is_more(last: bool, filled: usize, turn: Turn) -> bool
     ensures { Passing result turn.passed }
 {
-    if turn.passed == 0 {
-        return false;
-    }
-    if !last || turn.passed < filled {
-        return true;
-    }
-    let stands = turn.stands;
-    if let Stands::Between = stands {
-        false
-    } else {
-        true
-    }
+    turn.passed != 0 && (!last || turn.passed < filled || !matches!(turn.stands, Stands::Between))
 }
 
 // The n bytes from `from` on go to the front.
@@ -116,7 +99,5 @@ fn move_down(window: &mut [u8], from: usize, n: usize)
     requires { from + n ≤ length window.old }
     ensures { take n window.new ≡ take n (drop from window.old) }
 {
-    for i in 0..n {
-        window[i] = window[from + i];
-    }
+    window.copy_within(from..from + n, 0);
 }

@@ -4,17 +4,15 @@ ghost use Rattle.strings.specs.Number.{value_of};
 ghost use Rattle.wire.specs.Bytes.{entry_from, book_from};
 
 use crate::{BOOK_BYTES, ENTRY_BYTES};
-use book::{Book, Entry, SLOTS, empty_book};
+use book::{Book, Entry, empty_book};
 
 // The book of any 480 bytes: none are refused, since all have a meaning.
 pub fn book_from(bytes: [u8; BOOK_BYTES]) -> Book
     ensures { result ≡ book_from bytes }
 {
     let mut b = empty_book();
-    let mut i = 0;
-    while i < SLOTS {
-        b.entries[i] = entry_at(&bytes, i);
-        i += 1;
+    for (i, e) in b.entries.iter_mut().enumerate() {
+        *e = entry_at(&bytes, i);
     }
     b
 }
@@ -49,10 +47,8 @@ fn number_in(s: &[u8]) -> u64
     ensures { result ≡ value_of s.now }
 {
     let mut x: u64 = 0;
-    let mut i = 0;
-    while i < s.len() {
-        x = x * 256 + (s[i] as u64);
-        i += 1;
+    for b in s {
+        x = x * 256 + (*b as u64);
     }
     x
 }

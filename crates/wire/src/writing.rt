@@ -22,12 +22,9 @@ pub fn put_entries(out: &mut [u8], entries: [Entry; SLOTS])
     requires { length out.old ≡ 480 }
     ensures { out.new ≡ entries_bytes entries }
 {
-    let mut i = 0;
-    while i < SLOTS {
+    for (i, e) in entries.iter().enumerate() {
         let a = i * ENTRY_BYTES;
-        let e = a + ENTRY_BYTES;
-        put_entry(&mut out[a..e], entries[i]);
-        i += 1;
+        put_entry(&mut out[a..a + ENTRY_BYTES], *e);
     }
 }
 
@@ -55,11 +52,9 @@ fn put_nine(out: &mut [u8], top: u8, rest: u64)
 fn put_number(out: &mut [u8], x: u64)
     ensures { out.new ≡ bytes_of (length out.old) x }
 {
-    let mut i = out.len();
     let mut rest = x;
-    while 0 < i {
-        i -= 1;
+    for i in (0..out.len()).rev() {
         out[i] = (rest % 256) as u8;
-        rest = rest / 256;
+        rest /= 256;
     }
 }

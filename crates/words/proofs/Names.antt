@@ -11,7 +11,7 @@ use lib.IntN.{pos, neg_ℤ, sub_ℕ, ◌+ℤ◌}
 use lib.ListN.{length, take, drop}
 use lib.Seq.{take_all, take_at, drop_at, drop-drop}
 use Rattle.strings.specs.Pick.{pick}
-use Rattle.strings.specs.declared.Written.TheVariants.{Done}
+use Rattle.std.specs.Prelude.{Ok}
 use Rattle.strings.specs.Number.{number_of, bit_of, word_of}
 use Rattle.strings.specs.Hamming.{mended}
 use Rattle.strings.proofs.Digits.{bit_lt}
@@ -22,7 +22,6 @@ use Rattle.records.specs.declared.named.Record.{Record}
 use Rattle.records.specs.Records.{string1_of, string2_of, string3_of, string4_of, kind_of, list_of, record_of}
 use Rattle.records.proofs.RecordLists.{record_list}
 use Rattle.layout.specs.Layout.{layout}
-use Rattle.words.specs.declared.reading.Reading.TheVariants.{Read}
 use Rattle.words.specs.Signed.{signed_at}
 use Rattle.words.specs.Values.{carrier_of, values_of}
 use Rattle.words.specs.Immediate.{string_at, immediate_of}
@@ -143,7 +142,7 @@ named_by : (n : ℕ) (r : Record) → list_of r ≡ values_of n (layout (kind_of
 named_by n r e = subst (Named n) (ap (record_of (kind_of r)) (sym e) ∙ record_list r) (values_named (kind_of r) n)
 
 -- WHAT IS READ: m is bits 84 to 81 of the string as the check leaves it, and each word by its name is what stands in its bits
-pub read_named : (s : List ℕ) (k : Kind) (m : ℕ) (r : Record) → Reads s k (Read m r)
+pub read_named : (s : List ℕ) (k : Kind) (m : ℕ) (r : Record) → Reads s k (Ok (m, r))
     → (kind_of r ≡ k) × ((m ≡ word_of (mended (number_of s)) 84 81) × Named (mended (number_of s)) r)
 read_named s k m r a =
     let i = is_read s k m r a in
@@ -151,7 +150,7 @@ read_named s k m r a =
     (i.kind, (i.number, named_by n r (i.words ∙ ap (λ (k : Kind). values_of n (layout k)) (sym i.kind))))
 
 -- WHAT IS WRITTEN: m stands in bits 84 to 81, and each word by its name in its bits
-pub written_named : (m : ℕ) (r : Record) (out out' : List ℕ) → Writes m r out Done out' → (word_of (number_of out') 84 81 ≡ m) × Named (number_of out') r
+pub written_named : (m : ℕ) (r : Record) (out out' : List ℕ) → Writes m r out (Ok tt) out' → (word_of (number_of out') 84 81 ≡ m) × Named (number_of out') r
 written_named m r out out' a = let v = written_values m r out out' a in (v.0, named_by (number_of out') r (sym v.1))
 
 -- ---- AN IMMEDIATE RECORD: four strings of eleven bytes, one after the other, each by name in its own bits

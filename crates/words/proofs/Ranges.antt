@@ -15,8 +15,8 @@ use lib.ListN.{length, get_or, drop}
 use lib.Pow.{pow_pos, pow_mono}
 use lib.Signed.{le_z}
 use Rattle.strings.specs.Pick.{pick}
+use Rattle.std.specs.Prelude.{Err}
 use Rattle.strings.specs.declared.Refusal.TheVariants.{Range}
-use Rattle.strings.specs.declared.Written.TheVariants.{Refused as NotWritten}
 use Rattle.strings.specs.Number.{number_of, misshapen, word_of}
 use Rattle.strings.specs.Hamming.{mended}
 use Rattle.strings.specs.Numbers.{Test, first_of}
@@ -31,7 +31,6 @@ use Rattle.layout.specs.declared.table.Word.{Word}
 use Rattle.records.specs.declared.kinds.Kind.{Kind}
 use Rattle.records.specs.declared.kinds.Kind.TheVariants.{One, Two, Three, Four, Five, Even, Odd, Fourteen}
 use Rattle.records.specs.declared.named.Record.{Record}
-use Rattle.words.specs.declared.reading.Reading.TheVariants.{Refused}
 use Rattle.layout.specs.Layout.{layout, none, word, kind_number, of_kind}
 use Rattle.words.specs.Signed.{signed_at}
 use Rattle.words.specs.Values.{value_in, least_of, most_of, is_time, is_tk, in_range, values_of, first_bad}
@@ -322,7 +321,7 @@ tk_is z = (
 )
 
 -- ---- RANGE as it is answered: the place told is the first word that fails
-module _ (s : List ℕ) (k : Kind) (p : ℕ) (a : Reads s k (Refused (Range p))) where
+module _ (s : List ℕ) (k : Kind) (p : ℕ) (a : Reads s k (Err (Range p))) where
   abbrev left : ℕ
   left = mended (number_of s)
 
@@ -363,11 +362,11 @@ module _ (s : List ℕ) (k : Kind) (p : ℕ) (a : Reads s k (Refused (Range p)))
       ⊎_elim (λ (z : bad ≡ 0). absurd (eqb-false bad 0 e.1 z)) (λ (m : bad ≡ may_fail k). e.0 ∙ m) (reading_fails_only left k)
 
 -- by the encoder, of the record
-pub write_range : (m : ℕ) (r : Record) (out out' : List ℕ) (p : ℕ) → Writes m r out (NotWritten (Range p)) out' → FirstOut (layout (kind_of r)) (list_of r) p
+pub write_range : (m : ℕ) (r : Record) (out out' : List ℕ) (p : ℕ) → Writes m r out (Err (Range p)) out' → FirstOut (layout (kind_of r)) (list_of r) p
 unfolding Writes
 write_range m r out out' p a =
     let bad = first_bad (layout (kind_of r)) (list_of r) in
-    let f = ((write_numbers m r out (NotWritten (Range p)) out' a).refused 2 (lit< tt)).0 refl in
+    let f = ((write_numbers m r out (Err (Range p)) out' a).refused 2 (lit< tt)).0 refl in
     let c = f.1 in
     let t = is_true (not (eqb bad 0)) f.0 in
     let e : (10 ∷ p ∷ []) ≡ (10 ∷ bad ∷ []) = a.answer ∙ rw (unfit (no_room out) (c 0 (lit< tt)), unfit (not (of_kind (kind_of r) m)) (c 1 (lit< tt)), t) in

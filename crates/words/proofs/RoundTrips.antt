@@ -16,11 +16,9 @@ use lib.IntN.{ℤ, pos}
 use lib.ListN.{length, get_or, drop}
 use lib.Pow.{shr-shr}
 use Rattle.strings.specs.declared.Refusal.{Refusal}
+use Rattle.strings.specs.declared.Verdict.{Verdict}
+use Rattle.std.specs.Prelude.{Result, Ok, Err, ⊤}
 use Rattle.strings.specs.declared.Verdict.TheVariants.{Clean, Repaired}
-use Rattle.strings.specs.declared.Checked.{Checked}
-use Rattle.strings.specs.declared.Checked.TheVariants.{Taken}
-use Rattle.strings.specs.declared.Written.{Written}
-use Rattle.strings.specs.declared.Written.TheVariants.{Done, Refused as NotWritten}
 use Rattle.strings.specs.Pick.{pick}
 use Rattle.strings.specs.Number.{Bytes, number_of, misshapen, bit_of, word_of, flip, bytes_of_string}
 use Rattle.strings.specs.Hamming.{is_damaged, mended, Encoded, Whole, encode}
@@ -43,8 +41,6 @@ use Rattle.layout.specs.declared.table.Form.TheVariants.{Signed}
 use Rattle.layout.specs.declared.table.Word.{Word}
 use Rattle.records.specs.declared.kinds.Kind.{Kind}
 use Rattle.records.specs.declared.named.Record.{Record}
-use Rattle.words.specs.declared.reading.Reading.{Reading}
-use Rattle.words.specs.declared.reading.Reading.TheVariants.{Read, Refused}
 use Rattle.layout.specs.Layout.{layout, none, kind_number, of_kind}
 use Rattle.layout.specs.Reserved.{in_words}
 use Rattle.words.specs.Values.{code_as, code_in, values_of, first_bad, data_of}
@@ -62,37 +58,37 @@ use Rattle.words.proofs.Fits.{half_of, form_test, form_test_lem, test_at_lem, si
 use Rattle.words.proofs.Trip.{kind_values, kind_values_same, data_values, read_fit, bit_same, word_same, word_data, code_read, gap_data}
 
 -- ---- a reading is known by its numbers and its words
-pub reading_same : (q p : Reading) → reading_paper q ≡ reading_paper p → reading_words q ≡ reading_words p → q ≡ p
+pub reading_same : (q p : Result (ℕ × Record) Refusal) → reading_paper q ≡ reading_paper p → reading_words q ≡ reading_words p → q ≡ p
 unfolding reading_words
-reading_same (Read m r) (Read n s) e f =
+reading_same (Ok (m, r)) (Ok (n, s)) e f =
     let g : kind_of r ≡ kind_of s = kind_same (kind_of r) (kind_of s) (ap (λ (l : List ℕ). get_or l 2 0) e) in
-    ap₂ Read (ap (λ (l : List ℕ). get_or l 1 0) e) (sym (record_list r) ∙ ap₂ record_of g f ∙ record_list s)
-reading_same (Read m r) (Refused p) e f = absurd (omega (arith, list_long r, ap length f))
-reading_same (Refused q) (Read n s) e f = absurd (omega (arith, list_long s, ap length f))
-reading_same (Refused q) (Refused p) e f = ap Refused (refusal_same q p e)
+    ap₂ (λ (k : ℕ) (t : Record). Ok (k, t)) (ap (λ (l : List ℕ). get_or l 1 0) e) (sym (record_list r) ∙ ap₂ record_of g f ∙ record_list s)
+reading_same (Ok (m, r)) (Err p) e f = absurd (omega (arith, list_long r, ap length f))
+reading_same (Err q) (Ok (n, s)) e f = absurd (omega (arith, list_long s, ap length f))
+reading_same (Err q) (Err p) e f = ap Err (refusal_same q p e)
 
 -- ---- NO SECOND ANSWER FITS, AND EACH NUMBER EXACTLY: the reader
 module _ (s : List ℕ) (k : Kind) where
-  pub read_once : (q p : Reading) → Reads s k q → Reads s k p → q ≡ p
+  pub read_once : (q p : Result (ℕ × Record) Refusal) → Reads s k q → Reads s k p → q ≡ p
   unfolding Reads
   read_once q p a b = reading_same q p (a.answer ∙ sym b.answer) (a.words ∙ sym b.words)
 
-  pub read_numbers : (q : Reading) → Reads s k q → Exactly (read_tests s k) (reading_paper q)
+  pub read_numbers : (q : Result (ℕ × Record) Refusal) → Reads s k q → Exactly (read_tests s k) (reading_paper q)
   unfolding Reads sound_tests
   read_numbers q a = exactly {made = []} {out = []} tt (record { answer = a.answer; output = refl })
 
 -- the encoder
 module _ (m : ℕ) (r : Record) (out : List ℕ) where
-  pub write_once : (w v : Written) (out' out'' : List ℕ) → Writes m r out w out' → Writes m r out v out'' → (w ≡ v) × (out' ≡ out'')
+  pub write_once : (w v : Result ⊤ Refusal) (out' out'' : List ℕ) → Writes m r out w out' → Writes m r out v out'' → (w ≡ v) × (out' ≡ out'')
   unfolding Writes
   write_once w v out' out'' a b = let e = same_answer a b in (written_same w v e.0, e.1)
 
   -- "Refusals leave outputs untouched"
-  pub write_untouched : (q : Refusal) (out' : List ℕ) → Writes m r out (NotWritten q) out' → out' ≡ out
+  pub write_untouched : (q : Refusal) (out' : List ℕ) → Writes m r out (Err q) out' → out' ≡ out
   unfolding Writes
   write_untouched q out' a = refused_left q a
 
-  pub write_numbers : (w : Written) (out' : List ℕ) → Writes m r out w out' → Exactly (write_tests m r out) (written_paper w)
+  pub write_numbers : (w : Result ⊤ Refusal) (out' : List ℕ) → Writes m r out w out' → Exactly (write_tests m r out) (written_paper w)
   unfolding Writes
   write_numbers w out' a = exactly tt a
 
@@ -106,7 +102,7 @@ module _ (s : List ℕ) (k : Kind) (m : ℕ) (r : Record) where
       let p = sound_then (number_of s) (record { sound = i.sound; idle = i.idle }) after in
       rw (i.shape, p.0, i.numbered, i.place, eq-eqb _ 0 i.range)
 
-  pub reads : IsRead s k m r → Reads s k (Read m r)
+  pub reads : IsRead s k m r → Reads s k (Ok (m, r))
   unfolding Reads reading_words
   reads i =
       let n = mended (number_of s) in
@@ -117,7 +113,7 @@ module _ (s : List ℕ) (k : Kind) (m : ℕ) (r : Record) where
         words = i.words ∙ sym (ap (λ (x : ℕ). pick (eqb x 0) (values_of n (layout k)) []) z);
       }
 
-  pub is_read : Reads s k (Read m r) → IsRead s k m r
+  pub is_read : Reads s k (Ok (m, r)) → IsRead s k m r
   unfolding Reads reading_words
   is_read a =
       let n = mended (number_of s) in
@@ -143,15 +139,15 @@ module _ (s : List ℕ) (k : Kind) (m : ℕ) (r : Record) where
 
 -- ---- and to be written
 module _ (m : ℕ) (r : Record) (out out' : List ℕ) where
-  pub writes : IsWritten m r out out' → Writes m r out Done out'
+  pub writes : IsWritten m r out out' → Writes m r out (Ok tt) out'
   unfolding Writes
   writes i =
       goes_on 12 (has_room_lem out i.room) (goes_on 11 (ap not i.place) (goes_on 10 (ap not (eq-eqb _ 0 i.range)) (takes refl i.output)))
 
-  pub is_written : Writes m r out Done out' → IsWritten m r out out'
+  pub is_written : Writes m r out (Ok tt) out' → IsWritten m r out out'
   unfolding Writes
   is_written a =
-      let clear = (write_numbers m r out Done out' a).taken.0 refl in
+      let clear = (write_numbers m r out (Ok tt) out' a).taken.0 refl in
       record {
         room = eqb-true _ 11 (not-false _ (unfit (no_room out) (clear 0 (lit< tt))));
         place = not-false _ (unfit (not (of_kind (kind_of r) m)) (clear 1 (lit< tt)));
@@ -176,7 +172,7 @@ module _ (m d : ℕ) (h : m ≤ 15) (l : d < 2 ^ 80) where
 
 -- ---- WRITTEN, THEN READ: what was written is read, with its m and every word, whatever the kind. That it was written says that `out` had room, that
 -- m is of the kind and that every word is in range
-module _ (m : ℕ) (r : Record) (out out' : List ℕ) (a : Writes m r out Done out') where
+module _ (m : ℕ) (r : Record) (out out' : List ℕ) (a : Writes m r out (Ok tt) out') where
   abbrev words_of : ℕ
   words_of = data_of (layout (kind_of r)) (list_of r)
 
@@ -216,13 +212,13 @@ module _ (m : ℕ) (r : Record) (out out' : List ℕ) (a : Writes m r out Done o
       )
 
   -- which the public check takes as clean
-  pub written_clean : (room left : List ℕ) (c : Checked) → length room ≡ 11 → Checks out' room c left → (c ≡ Taken Clean) × (left ≡ out')
+  pub written_clean : (room left : List ℕ) (c : Result Verdict Refusal) → length room ≡ 11 → Checks out' room c left → (c ≡ Ok Clean) × (left ≡ out')
   written_clean room left c n b =
       let w = written_whole in
       let e = encoded_clean w.number w.small w.encoded room n c left w.idle (subst (λ (s : List ℕ). Checks s room c left) w.bytes b) in
       (e.0, e.1 ∙ sym w.bytes)
 
-  written_read : Reads (bytes_of_string (made m words_of m_lt words_lt)) (kind_of r) (Read m r)
+  written_read : Reads (bytes_of_string (made m words_of m_lt words_lt)) (kind_of r) (Ok (m, r))
   written_read =
       let k = kind_of r in
       let x = m * 2 ^ 80 + words_of in
@@ -244,9 +240,9 @@ module _ (m : ℕ) (r : Record) (out out' : List ℕ) (a : Writes m r out Done o
         words = rw (e, v);
       })
 
-  pub written_then_read : (q : Reading) → Reads out' (kind_of r) q → q ≡ Read m r
+  pub written_then_read : (q : Result (ℕ × Record) Refusal) → Reads out' (kind_of r) q → q ≡ Ok (m, r)
   unfolding string_of
-  written_then_read q b = read_once out' (kind_of r) q (Read m r) b (subst (λ (s : List ℕ). Reads s (kind_of r) (Read m r)) (sym facts.output) written_read)
+  written_then_read q b = read_once out' (kind_of r) q (Ok (m, r)) b (subst (λ (s : List ℕ). Reads s (kind_of r) (Ok (m, r))) (sym facts.output) written_read)
 
   -- ---- WHAT IS WRITTEN IS TIDY, of every record: no minus zero, no reserved bit at 1
   word_written : (j : ℕ) → j < 8 → bits_in (number_of out') (word_at (kind_of r) j) ≡ code_in (word_at (kind_of r) j) (get_or (list_of r) j (pos 0))
@@ -288,13 +284,13 @@ module _ (m : ℕ) (r : Record) (out out' : List ℕ) (a : Writes m r out Done o
       }
 
 -- ---- the reader goes by the shape, the check's tests and the string as the check leaves it
-reads_by : (s t : List ℕ) (k : Kind) (q : Reading) → misshapen s ≡ misshapen t → sound_tests (number_of s) ≡ sound_tests (number_of t)
+reads_by : (s t : List ℕ) (k : Kind) (q : Result (ℕ × Record) Refusal) → misshapen s ≡ misshapen t → sound_tests (number_of s) ≡ sound_tests (number_of t)
     → mended (number_of s) ≡ mended (number_of t) → Reads s k q → Reads t k q
 unfolding Reads
 reads_by s t k q e f g a = rw (← e, ← f, ← g) a
 
 -- ONE FLIP READS ALIKE: an encoded string with one bit flipped, but bit 8, is read as the string itself, whatever kind is asked
-pub flip_reads_alike : (n i : ℕ) → n < 2 ^ 85 → Encoded n → 1 ≤ i → i ≤ 85 → (i ≡ 8 → ⊥) → (k : Kind) (q p : Reading)
+pub flip_reads_alike : (n i : ℕ) → n < 2 ^ 85 → Encoded n → 1 ≤ i → i ≤ 85 → (i ≡ 8 → ⊥) → (k : Kind) (q p : Result (ℕ × Record) Refusal)
     → Reads (bytes_of_string (flip n i)) k q → Reads (bytes_of_string n) k p → q ≡ p
 flip_reads_alike n i h v l u ne k q p a b =
     let m = flip n i in
@@ -310,15 +306,15 @@ flip_reads_alike n i h v l u ne k q p a b =
 
 -- ---- READ, THEN WRITTEN: the string as the check leaves it, "but that reserved bits and minus zeros become plain zeros and the check bits
 -- follow" (Tidied.antt; what `tidied` is, bit for bit, is `tidied_is` below)
-pub read_then_written : (s : List ℕ) (k : Kind) (m : ℕ) (r : Record) (out : List ℕ) (w : Written) (out' : List ℕ)
-    → Reads s k (Read m r) → Writes m r out w out' → length out ≡ 11 → (w ≡ Done) × (out' ≡ bytes_of_string (tidied k (mended (number_of s))))
+pub read_then_written : (s : List ℕ) (k : Kind) (m : ℕ) (r : Record) (out : List ℕ) (w : Result ⊤ Refusal) (out' : List ℕ)
+    → Reads s k (Ok (m, r)) → Writes m r out w out' → length out ≡ 11 → (w ≡ Ok tt) × (out' ≡ bytes_of_string (tidied k (mended (number_of s))))
 unfolding string_of tidied
 read_then_written s k m r out w out' a b h =
     let i = is_read s k m r a in
     let n = mended (number_of s) in
     let x : m * 2 ^ 80 + data_of (layout (kind_of r)) (list_of r) ≡ number_in n * 2 ^ 80 + tidy_words n (layout k) =
     ap₂ (λ (a b : ℕ). a * 2 ^ 80 + b) i.number (ap₂ (λ (k : Kind) (zs : List ℤ). data_of (layout k) zs) i.kind i.words ∙ data_values n (layout k) 80 (layout_laid k)) in
-    let e = write_once m r out w Done out' _ b
+    let e = write_once m r out w (Ok tt) out' _ b
     (writes m r out (bytes_of_string (string_of m r))
     (record {
       room = h;
@@ -329,11 +325,11 @@ read_then_written s k m r out w out' a b h =
     (e.0, e.1 ∙ ap (λ (y : ℕ). bytes_of_string (encode y)) x)
 
 -- what was read, written again and read again is the same
-pub read_again : (s : List ℕ) (k : Kind) (m : ℕ) (r : Record) (out : List ℕ) (w : Written) (out' : List ℕ) (q : Reading)
-    → Reads s k (Read m r) → Writes m r out w out' → length out ≡ 11 → Reads out' k q → q ≡ Read m r
+pub read_again : (s : List ℕ) (k : Kind) (m : ℕ) (r : Record) (out : List ℕ) (w : Result ⊤ Refusal) (out' : List ℕ) (q : Result (ℕ × Record) Refusal)
+    → Reads s k (Ok (m, r)) → Writes m r out w out' → length out ≡ 11 → Reads out' k q → q ≡ Ok (m, r)
 read_again s k m r out w out' q a b h c =
     let e = read_then_written s k m r out w out' a b h in
-    written_then_read m r out out' (subst (λ (w : Written). Writes m r out w out') e.0 b) q (subst (λ (k : Kind). Reads out' k q) (sym (is_read s k m r a).kind) c)
+    written_then_read m r out out' (subst (λ (w : Result ⊤ Refusal). Writes m r out w out') e.0 b) q (subst (λ (k : Kind). Reads out' k q) (sym (is_read s k m r a).kind) c)
 
 -- ---- WHAT IS TIDIED, bit for bit
 number_lt : (n : ℕ) → number_in n ≤ 15
@@ -420,8 +416,8 @@ pub tidied_only : (k : Kind) (n t : ℕ) → Tidy k n t → t ≡ tidied k n
 tidied_only k n t a = tidy_once k n t (tidied k n) a (tidied_is k n)
 
 -- so an encoded string with its idle bit, its reserved bits and no minus zero as the encoder writes them comes back byte for byte
-pub comes_back : (s : List ℕ) (k : Kind) (m : ℕ) (r : Record) (out : List ℕ) (w : Written) (out' : List ℕ) → Bytes s → Tidy k (number_of s) (number_of s)
-    → Reads s k (Read m r) → Writes m r out w out' → length out ≡ 11 → (w ≡ Done) × (out' ≡ s)
+pub comes_back : (s : List ℕ) (k : Kind) (m : ℕ) (r : Record) (out : List ℕ) (w : Result ⊤ Refusal) (out' : List ℕ) → Bytes s → Tidy k (number_of s) (number_of s)
+    → Reads s k (Ok (m, r)) → Writes m r out w out' → length out ≡ 11 → (w ≡ Ok tt) × (out' ≡ s)
 comes_back s k m r out w out' b t a c h =
     let n = number_of s in
     let e = read_then_written s k m r out w out' a c h in

@@ -1,7 +1,7 @@
 -- The reader and the encoder: one relation each between what they were handed, the answer and what was left.
 -- Assumes nothing.
-use Rattle.std.specs.Prelude.{ℕ, ◌+◌, ◌*◌, ◌^◌, not, List, [], ◌∷◌, ◌++◌, ◌≡◌, eqb, ℤ}
-use Rattle.strings.specs.declared.Written.{Written}
+use Rattle.std.specs.Prelude.{ℕ, ◌+◌, ◌*◌, ◌^◌, not, List, [], ◌∷◌, ◌++◌, ◌≡◌, eqb, ℤ, Result, Ok, Err, ⊤}
+use Rattle.strings.specs.declared.Refusal.{Refusal}
 use Rattle.strings.specs.Pick.{pick}
 use Rattle.strings.specs.Number.{number_of, word_of, bytes_of_string}
 use Rattle.strings.specs.Hamming.{mended, encode}
@@ -9,8 +9,6 @@ use Rattle.strings.specs.Numbers.{refusal_paper, Test, test, test_at, first_of, 
 use Rattle.strings.specs.Calls.{string_tests, no_room, written_paper}
 use Rattle.records.specs.declared.kinds.Kind.{Kind}
 use Rattle.records.specs.declared.named.Record.{Record}
-use Rattle.words.specs.declared.reading.Reading.{Reading}
-use Rattle.words.specs.declared.reading.Reading.TheVariants.{Read, Refused}
 use Rattle.layout.specs.Layout.{layout, kind_number, of_kind}
 use Rattle.words.specs.Values.{values_of, first_bad, data_of}
 use Rattle.records.specs.Records.{kind_of, list_of}
@@ -33,20 +31,20 @@ abbrev pub read_tests : List ℕ → Kind → List Test
 read_tests s k = string_tests s ++ word_tests (mended (number_of s)) k
 
 -- an answer in the paper's numbers: 0, m and the kind; and the words that it tells
-abbrev pub reading_paper : Reading → List ℕ
-reading_paper (Read m r) = 0 ∷ m ∷ kind_number (kind_of r) ∷ []
-reading_paper (Refused q) = refusal_paper q
+abbrev pub reading_paper : Result (ℕ × Record) Refusal → List ℕ
+reading_paper (Ok (m, r)) = 0 ∷ m ∷ kind_number (kind_of r) ∷ []
+reading_paper (Err q) = refusal_paper q
 
-unfoldable pub reading_words : Reading → List ℤ
-reading_words (Read m r) = list_of r
-reading_words (Refused q) = []
+unfoldable pub reading_words : Result (ℕ × Record) Refusal → List ℤ
+reading_words (Ok (m, r)) = list_of r
+reading_words (Err q) = []
 
 -- what is answered of the string n after these tests: m and the kind, and the words
-pub record ReadsBy (tests : List Test) (n : ℕ) (k : Kind) (r : Reading) : Type 0 where
+pub record ReadsBy (tests : List Test) (n : ℕ) (k : Kind) (r : Result (ℕ × Record) Refusal) : Type 0 where
   pub answer : reading_paper r ≡ answer_of tests (number_in n ∷ kind_number k ∷ [])
   pub words : reading_words r ≡ pick (eqb (first_of tests) 0) (values_of n (layout k)) []
 
-unfoldable pub Reads : List ℕ → Kind → Reading → Type 0
+unfoldable pub Reads : List ℕ → Kind → Result (ℕ × Record) Refusal → Type 0
 Reads s k r = ReadsBy (read_tests s k) (mended (number_of s)) k r
 
 -- ---- "Encoder (plain form, checked): 12, 11, 10"
@@ -57,5 +55,5 @@ write_tests m r out = test 12 (no_room out) ∷ test 11 (not (of_kind (kind_of r
 unfoldable pub string_of : ℕ → Record → ℕ
 string_of m r = encode (m * 2 ^ 80 + data_of (layout (kind_of r)) (list_of r))
 
-unfoldable pub Writes : ℕ → Record → List ℕ → Written → List ℕ → Type 0
+unfoldable pub Writes : ℕ → Record → List ℕ → Result ⊤ Refusal → List ℕ → Type 0
 Writes m r out w out' = Answers (write_tests m r out) [] (bytes_of_string (string_of m r)) out (written_paper w) out'

@@ -9,46 +9,36 @@ use layout::is_of_kind;
 use records::{
     ImmediateWords, Kind, Record, record_of, string1_of, string2_of, string3_of, string4_of,
 };
-use strings::{Checked, Refusal};
-
-// The reader's answer: m and the words of the kind asked, or why not.
-#[derive(Clone, Copy)]
-pub enum Reading {
-    Read(u8, Record),
-    Refused(Refusal),
-}
+use strings::Refusal;
 
 // Checks a plain string, and reads the words of the kind asked from the string as the check leaves
-// it.
-pub fn read_words(s: &[u8], k: Kind) -> Reading
+// it: m and the words, or why not.
+pub fn read_words(s: &[u8], k: Kind) -> Result<(u8, Record), Refusal>
     ensures { Reads s.now k result }
 {
     let mut whole = [0u8; 11];
-    let checked = strings::check(s, &mut whole);
-    match checked {
-        Checked::Refused(r) => Reading::Refused(r),
-        Checked::Taken(_) => read_whole(&whole, k),
-    }
+    strings::check(s, &mut whole)?;
+    read_whole(&whole, k)
 }
 
 // The reader past the check.
-fn read_whole(s: &[u8], k: Kind) -> Reading
+fn read_whole(s: &[u8], k: Kind) -> Result<(u8, Record), Refusal>
     requires { length s.now ≡ 11 }
     ensures { ReadsBy (word_tests (number_of s.now) k) (number_of s.now) k result }
 {
     let m = number_in(s);
     if m == 0 {
-        return Reading::Refused(Refusal::Number);
+        return Err(Refusal::Number);
     }
     if !is_of_kind(k, m) {
-        return Reading::Refused(Refusal::Place);
+        return Err(Refusal::Place);
     }
     let v = values_in(s, k);
     let place = first_bad(k, v);
     if place != 0 {
-        return Reading::Refused(Refusal::Range(place));
+        return Err(Refusal::Range(place));
     }
-    Reading::Read(m, record_of(k, v))
+    Ok((m, record_of(k, v)))
 }
 
 // The words of strings 1 to 4 that stand one after the other in 44 bytes, whatever they are.

@@ -156,32 +156,30 @@ fn is_in_range(w: Word, z: i32) -> bool
     }
 }
 
-// The values of a kind's words in a string.
+// The values of a kind's words in a string. The place j asks the table too.
 pub fn values_in(s: &[u8], k: Kind) -> [i32; 8]
     requires { length s.now ≡ 11 }
     ensures { result ≡ values_of (number_of s.now) (layout k) }
 {
     let mut v = [0i32; 8];
-    for j in 0..8 {
+    for (j, value) in v.iter_mut().enumerate() {
         let w = word_at(k, j);
         let raw = word_in(s, w.top, w.low);
-        v[j] = value_of(w, raw);
+        *value = value_of(w, raw);
     }
     v
 }
 
 // The top bit number of the first word, from the highest down, whose value is out of range; 0 where
-// none is.
+// none is, as in `first_bad` of specs/Values.antt, of which the theorems speak.
 pub fn first_bad(k: Kind, v: [i32; 8]) -> u8
     ensures { result ≡ first_bad (layout k) v }
 {
-    let mut place: u8 = 0;
-    for j in 0..8 {
+    for (j, &z) in v.iter().enumerate() {
         let w = word_at(k, j);
-        if !is_in_range(w, v[j]) {
-            place = w.top;
-            break;
+        if !is_in_range(w, z) {
+            return w.top;
         }
     }
-    place
+    0
 }

@@ -1,18 +1,21 @@
--- `month_of` meets its contract. The loop's invariant: month i begins on this day or before it. Assumes nothing.
-use native.Mathlib.Numerals.{add-one}
+-- `month_of` meets its contract: the table ascends, and the first day of four years is one of its first month. Assumes nothing.
+use borrow.Author.Rules.{rules}
+use lib.Dec.{leb}
+use Rattle.std.proofs.lemmas.List.Sorted.{IsPartitionPoint-from_clause, IsPartitionedBy-leb}
 use Rattle.calendar.specs.FourYears.{starts}
-use Rattle.calendar.proofs.Months.{begins_before, goes_on}
+use Rattle.calendar.proofs.Months.{ascending, month_found}
 use Rattle.calendar.proofs.month_of.Goals as goal
 
-pub loop-i-init : goal.loop-i-init
-loop-i-init c = begins_before c.args.rest c.requires
-
-pub loop-i-preserved : goal.loop-i-preserved
+pub overflow_sub-result : goal.overflow_sub-result
 unfolding starts
-loop-i-preserved c = goes_on c.args.rest c.loop-i.i c.loop-i.invariant c.loop-i-test.true
+overflow_sub-result c =
+    let day = c.args.rest in
+    let point = IsPartitionPoint-from_clause (λ y. leb y day) starts _ c.partition_point.ensures.partitioned (IsPartitionedBy-leb (λ y. y) starts day ascending) (λ a r q k. search rules) in
+    (month_found day c.partition_point.result c.requires point).0
 
 pub returns : goal.returns
 unfolding starts
 returns c =
-    let l = c.loop-i in
-    record { one_of_48 = l.invariant.one_of_48; from = l.invariant.from; before_next = rw add-one at c.loop-i-test.false }
+    let day = c.args.rest in
+    let point = IsPartitionPoint-from_clause (λ y. leb y day) starts _ c.partition_point.ensures.partitioned (IsPartitionedBy-leb (λ y. y) starts day ascending) (λ a r q k. search rules) in
+    (month_found day c.partition_point.result c.requires point).1

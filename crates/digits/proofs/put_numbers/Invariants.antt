@@ -1,10 +1,6 @@
--- `put_numbers` meets its contract: one number after the other, and the last (`Row`). Assumes nothing.
-use Prim.Native.Nat.{◌-◌, ◌≤◌}
+-- The loop over all numbers but the last: those before the index are printed (`Row`). Assumes nothing.
 use Rattle.digits.proofs.Row.{RowSoFar}
 use Rattle.digits.proofs.put_numbers.Given as goal
 
-abbrev pub invariant-loop-i : goal.invariant-loop-i
-invariant-loop-i l = RowSoFar l.numbers l.initial.text l.at l.text l.end l.i × (l.i ≤ l.last)
-
-abbrev pub decreases-loop-i : goal.decreases-loop-i
-decreases-loop-i l = l.last - l.i
+abbrev pub invariant-loop-n : goal.invariant-loop-n
+invariant-loop-n l = RowSoFar l.numbers l.initial.text l.at l.text l.end l.n-index

@@ -5,14 +5,14 @@ use Rattle.station.proofs.Served.{opened}
 use Rattle.navigation_queries.proofs.Five.{five_missing, five_found}
 use Rattle.navigation_queries.proofs.five_of.Goals as goal
 
-pub returns-then-not-has_five : goal.returns-then-not-has_five
+pub returns-else-has_five : goal.returns-else-has_five
 unfolding no_row
-returns-then-not-has_five c =
+returns-else-has_five c =
     let a = c.args in
-    five_missing a.st a.card a.channel _ (opened a.card a.channel c.enter-gate.ensures c.in-Open.is) (is_not c.has_five.ensures c.if-not-has_five.true)
+    five_missing a.st a.card a.channel _ (opened a.card a.channel c.enter.ensures c.in_ok-row.was) (is_not c.has_five.ensures c.if-has_five.false)
 
-pub returns-else-not-has_five : goal.returns-else-not-has_five
+pub returns-then-has_five : goal.returns-then-has_five
 unfolding no_row
-returns-else-not-has_five c =
+returns-then-has_five c =
     let a = c.args in
-    five_found a.st a.card a.channel _ (opened a.card a.channel c.enter-gate.ensures c.in-Open.is) (is_so c.has_five.ensures c.if-not-has_five.false) _ c.five_words.ensures
+    five_found a.st a.card a.channel _ (opened a.card a.channel c.enter.ensures c.in_ok-row.was) (is_so c.has_five.ensures c.if-has_five.true) _ c.five_words.ensures

@@ -2,10 +2,10 @@
 use Rattle.book.specs.Book.{joined_entry}
 use Rattle.book.proofs.pages.join.Goals as goal
 
-pub returns-in-Nothing : goal.returns-in-Nothing
+pub returns-in-None : goal.returns-in-None
 unfolding joined_entry
-returns-in-Nothing c = rw c.in-Nothing.is
+returns-in-None c = rw c.in-None.is
 
-pub returns-in-At : goal.returns-in-At
+pub returns-in-Some : goal.returns-in-Some
 unfolding joined_entry
-returns-in-At c = rw (c.in-At.is, c.greater_of.ensures)
+returns-in-Some c = rw (c.in-Some.is, c.greater_of.ensures)

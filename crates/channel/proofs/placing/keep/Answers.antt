@@ -10,10 +10,10 @@ use lib.Bits.{bit_or}
 use lib.ListN.{length, replicate, length-replicate}
 use lib.Seq.{paste}
 use Rattle.strings.specs.Number.{number_of}
+use Rattle.std.specs.Prelude.{Ok}
 use Rattle.strings.specs.Pick.{pick}
 use Rattle.strings.proofs.Shape.{shaped}
 use Rattle.words.proofs.WordBits.{word_lt}
-use Rattle.channel.specs.declared.Placed.TheVariants.{Taken}
 use Rattle.channel.specs.Row.{holds_frame, bytes_by, held}
 use Rattle.channel.specs.Offers.{StoresIn}
 use Rattle.channel.proofs.Storing.{part_long, put_pasted, stores_by}
@@ -26,7 +26,9 @@ among c =
     let a = c.args in
     let by : Bool → List ℕ = λ (t : Bool). pick t a.all.now (replicate 165 0) in
     elim c.if-not-holds_frame.branch [
-      | then-not-holds_frame w ↦ w.all-is ∙ w.clear.ensures ∙ ap by (sym (sym c.holds_frame.ensures ∙ w.if-not-holds_frame.true))
+      | then-not-holds_frame w ↦
+          w.all-is ∙ w.fill.ensures.after (λ y e. e) ∙ ap (λ (n : ℕ). replicate n 0) c.requires.0
+          ∙ ap by (sym (sym c.holds_frame.ensures ∙ w.if-not-holds_frame.true))
       | else-not-holds_frame w ↦ w.all-is ∙ ap by (sym (sym c.holds_frame.ensures ∙ w.if-not-holds_frame.false))
     ]
 
@@ -82,6 +84,6 @@ returns c =
     let a = c.args in
     let m = c.number_in-m.result in
     let mask = bit_or a.mask (1 * 2 ^ (m - 1) % 2 ^ 16) in
-    subst (λ (x : List ℕ). StoresIn (held a.start a.mask x) (number_of a.s.now) a.v (Taken m a.v c.news_at-news.result) (held a.start mask (left c))) (among c)
+    subst (λ (x : List ℕ). StoresIn (held a.start a.mask x) (number_of a.s.now) a.v (Ok (m, a.v, c.news_at-news.result)) (held a.start mask (left c))) (among c)
     (stores_by a.start a.mask c.if-not-holds_frame.all m a.s.now (left c) a.v c.news_at-news.result (long c) (λ i. (c.type_inv.s i).fits)
     c.requires.1.0 c.requires.1.1 c.number_in-m.ensures (copied c) c.news_at-news.ensures)

@@ -5,5 +5,5 @@ use Rattle.shows.proofs.Turns.{changed_to}
 use Rattle.lent.proofs.Turns.{in_turn, left_after}
 use Rattle.lent.proofs.offering.bring_all.Given as goal
 
-abbrev pub invariant-loop-j : goal.invariant-loop-j
-invariant-loop-j l = (length l.shown ≡ 5) × ((l.st ≡ left_after l.fn.st l.shown l.j) × (l.changed ≡ changed_to l.fn.st.book (in_turn l.shown) l.j))
+abbrev pub invariant-loop-s : goal.invariant-loop-s
+invariant-loop-s l = (length l.s-items ≡ 5) × ((l.st ≡ left_after l.fn.st l.s-items l.s-index) × (l.changed ≡ changed_to l.fn.st.book (in_turn l.s-items) l.s-index))

@@ -6,8 +6,8 @@ use mathlib.Core.Bool.{Bool, false}
 use Prim.Native.Nat.{ℕ}
 use lib.ListN.{get_or, set}
 use Rattle.book.specs.declared.Entry.{Entry}
+use Rattle.std.specs.Prelude.{Option}
 use Rattle.book.specs.declared.Book.{Book}
-use Rattle.book.specs.declared.Shown.{Shown}
 use Rattle.book.specs.Entry.{blank}
 use Rattle.book.specs.Book.{place_in, joined_entry, rises_above}
 use Rattle.book.proofs.Joins.{shown_in_place, shown_below}
@@ -28,14 +28,14 @@ abbrev rebound : Station → Book → Station
 rebound st b = record { rows = st.rows; book = b; summary = st.summary }
 
 -- whether the entry rose, as the slot says
-risen : (st : Station) (s : Shown) (k : ℕ) (t : Bool) → k ≡ place_in s → t ≡ rises_above (entry_at st k) s → t ≡ rises_in st.book s
+risen : (st : Station) (s : Option (ℕ × Entry)) (k : ℕ) (t : Bool) → k ≡ place_in s → t ≡ rises_above (entry_at st k) s → t ≡ rises_in st.book s
 risen st s k t p q = q ∙ ap (λ (i : ℕ). rises_above (entry_at st i) s) p
 
-joined_one : (st : Station) (s : Shown) (k : ℕ) (e : Entry) (t : Bool) → k ≡ place_in s → t ≡ rises_above (entry_at st k) s → e ≡ joined_entry (entry_at st k) s
+joined_one : (st : Station) (s : Option (ℕ × Entry)) (k : ℕ) (e : Entry) (t : Bool) → k ≡ place_in s → t ≡ rises_above (entry_at st k) s → e ≡ joined_entry (entry_at st k) s
     → BringsOne st s (left st k e) t
 joined_one st s k e t p q r = (rw (r, p) (ap (rebound st) (shown_in_place st.book s)), risen st s k t p q)
 
-kept_one : (st : Station) (s : Shown) (k : ℕ) (t : Bool) → k ≡ place_in s → t ≡ rises_above (entry_at st k) s → t ≡ false → BringsOne st s st t
+kept_one : (st : Station) (s : Option (ℕ × Entry)) (k : ℕ) (t : Bool) → k ≡ place_in s → t ≡ rises_above (entry_at st k) s → t ≡ false → BringsOne st s st t
 kept_one st s k t p q f = (ap (rebound st) (shown_below st.book s (sym (risen st s k t p q) ∙ f)), risen st s k t p q)
 
 pub returns-then-higher : goal.returns-then-higher

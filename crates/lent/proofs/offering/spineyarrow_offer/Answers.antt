@@ -8,8 +8,10 @@ use Prim.Native.Nat.{ℕ, ◌<◌}
 use native.Mathlib.Omega.{arith}
 use lib.ListN.{get_or}
 use Rattle.strings.specs.Numbers.{first_of}
-use Rattle.book.specs.declared.Shown.{Shown}
-use Rattle.channel.specs.declared.Answer.{Answer}
+use Rattle.strings.specs.declared.Refusal.{Refusal}
+use Rattle.channel.specs.declared.TakenString.{TakenString}
+use Rattle.book.specs.declared.Entry.{Entry}
+use Rattle.std.specs.Prelude.{Result, Option}
 use Rattle.channel.specs.declared.Offered.{Offered}
 use Rattle.channel.specs.Row.{framed}
 use Rattle.channel.specs.Offers.{offer_tests, Offers, answer_paper, is_stored}
@@ -30,14 +32,14 @@ use Rattle.lent.proofs.Turns.{newly_in}
 use Rattle.lent.proofs.offering.spineyarrow_offer.Goals as goal
 
 -- ---- the contract, from what `AfterOffer` says
-abbrev stepped : Station → Answer → Stepped
+abbrev stepped : Station → Result TakenString Refusal → Stepped
 stepped st a = record { station = st; answer = a }
 
 -- what `newly_shown` gives
-abbrev newly_of : Offered → List Shown
+abbrev newly_of : Offered → List (Option (ℕ × Entry))
 newly_of p = newly_shown (is_stored p.answer) (framed 0 p.row.present p.row.strings)
 
-lent_of : (st : Station) (card c e : ℕ) (s : List ℕ) (st' : Station) (a : Answer) (r : ℕ) → r ≡ packed (answer_paper a) → OffersTo st card c e s (stepped st' a) → OffersLent st card c e s st' r
+lent_of : (st : Station) (card c e : ℕ) (s : List ℕ) (st' : Station) (a : Result TakenString Refusal) (r : ℕ) → r ≡ packed (answer_paper a) → OffersTo st card c e s (stepped st' a) → OffersLent st card c e s st' r
 lent_of st card c e s st' a r er o = record { answer = er ∙ ap packed o.answer; station = o.station }
 
 refused_lent : (st : Station) (card c e : ℕ) (s : List ℕ) (r : ℕ) → r ≡ first_of (gate_tests card c) → 0 < r → OffersLent st card c e s st r
@@ -80,4 +82,4 @@ returns c =
     (let_in_lem a.card a.channel c.gate_number-shut.result c.gate_number-shut.ensures c.if-shut-gt0.false)
     c.offer-offered.ensures
     c.told_in-told.ensures
-    (subst (λ (xs : List Shown). BringsAll (with_row a.st.now a.channel c.offer-offered.result.row) xs c.bring_all.new.st) c.newly_shown-shown.ensures c.bring_all.ensures)
+    (subst (λ (xs : List (Option (ℕ × Entry))). BringsAll (with_row a.st.now a.channel c.offer-offered.result.row) xs c.bring_all.new.st) c.newly_shown-shown.ensures c.bring_all.ensures)

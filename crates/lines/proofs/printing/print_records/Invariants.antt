@@ -1,11 +1,9 @@
--- `printing::print_records` meets its contract: the first i records are printed (`Block`). The measure is the number of records that are left.
+-- The loop over the records of an input: those that were taken are printed (`Block`), and the others are left (`Cut`).
 -- Assumes nothing.
-use Prim.Native.Nat.{◌-◌, ◌≤◌}
+use lib.ListN.{length}
+use Rattle.fields.proofs.Cut.{Cut}
 use Rattle.lines.proofs.Block.{SoFar}
 use Rattle.lines.proofs.printing.print_records.Given as goal
 
-abbrev pub invariant-loop-i : goal.invariant-loop-i
-invariant-loop-i l = SoFar l.initial.after l.input l.initial.text l.text l.after l.end l.i × (l.i ≤ l.count)
-
-abbrev pub decreases-loop-i : goal.decreases-loop-i
-decreases-loop-i l = l.count - l.i
+abbrev pub invariant-loop-rec : goal.invariant-loop-rec
+invariant-loop-rec l = SoFar l.initial.after l.input l.initial.text l.text l.after l.end (length l.yielded) × Cut l.input l.yielded l.rec-iterator

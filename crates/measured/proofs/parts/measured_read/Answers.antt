@@ -8,14 +8,14 @@ use Rattle.measured.specs.Parts.{words_left}
 use Rattle.measured.proofs.Strings.{tells_read}
 use Rattle.measured.proofs.parts.measured_read.Goals as goal
 
-pub returns-in-Refused : goal.returns-in-Refused
+pub returns-in-Err : goal.returns-in-Err
 unfolding words_left
-returns-in-Refused c =
-    tells_read c.kind_by.ensures c.read_words-read.ensures c.in-Refused.is c.refusal_told.ensures refl
+returns-in-Err c =
+    tells_read c.kind_by.ensures c.read_words-read.ensures c.in-Err.is c.refusal_told.ensures refl
 
-pub returns-in-Read : goal.returns-in-Read
+pub returns-in-Ok : goal.returns-in-Ok
 unfolding words_left
-returns-in-Read c =
-    tells_read c.kind_by.ensures c.read_words-read.ensures c.in-Read.is
-    (c.read_told.ensures ∙ ap (λ (n : ℕ). packed (0 ∷ c.in-Read.m ∷ n ∷ [])) (c.number_of.ensures ∙ ap kind_number c.kind_of.ensures))
+returns-in-Ok c =
+    tells_read c.kind_by.ensures c.read_words-read.ensures c.in-Ok.is
+    (c.read_told.ensures ∙ ap (λ (n : ℕ). packed (0 ∷ c.in-Ok.m ∷ n ∷ [])) (c.number_of.ensures ∙ ap kind_number c.kind_of.ensures))
     c.list_of.ensures

@@ -1,12 +1,9 @@
--- `whole::measured_offers` meets its contract: the first i records are offered and their answers added up (`Offered`). The measure is the number of
--- records that are left.
+-- The loop over the records of an input: those that were taken are offered and their answers added up (`Offered`), and the others are left (`Cut`).
 -- Assumes nothing.
-use Prim.Native.Nat.{◌-◌, ◌≤◌}
+use lib.ListN.{length}
+use Rattle.fields.proofs.Cut.{Cut}
 use Rattle.measured.proofs.Offered.{SoFar}
 use Rattle.measured.proofs.whole.measured_offers.Given as goal
 
-abbrev pub invariant-loop-i : goal.invariant-loop-i
-invariant-loop-i l = SoFar l.input l.st l.sum l.i × (l.i ≤ l.count)
-
-abbrev pub decreases-loop-i : goal.decreases-loop-i
-decreases-loop-i l = l.count - l.i
+abbrev pub invariant-loop-rec : goal.invariant-loop-rec
+invariant-loop-rec l = SoFar l.input l.st l.sum (length l.yielded) × Cut l.input l.yielded l.rec-iterator

@@ -1,17 +1,23 @@
--- `capture::write_records` meets its contract: the first i records are told (`Telling`). The measure is the number of records that are left.
+-- `capture::write_records` meets its contract: one record after the other is told (`Telling`).
 -- Assumes nothing.
-use native.Mathlib.Omega.{arith}
+use Rattle.std.proofs.lemmas.List.{length_push}
+use Rattle.fields.proofs.Cut.{cut_none, cut_next, cut_more, cut_all}
 use Rattle.navfile.proofs.Telling.{none_yet, one_more_lem, all_told}
 use Rattle.navfile.proofs.capture.write_records.Goals as goal
 
-pub loop-i-init : goal.loop-i-init
-loop-i-init c = (none_yet, omega arith)
+pub loop-rec-init : goal.loop-rec-init
+loop-rec-init c =
+    let items = c.chunks_exact-rec-items.ensures in
+    (none_yet, cut_none c.into_iter-rec-iterator.ensures.into_iter_gives items.size items.rest)
 
-pub loop-i-preserved : goal.loop-i-preserved
-loop-i-preserved c =
-    (one_more_lem _ c.loop-i.invariant.0 c.take_record-told.ensures, omega (arith, c.loop-i-test.true))
+pub loop-rec-preserved : goal.loop-rec-preserved
+loop-rec-preserved c =
+    let cut = c.loop-rec.invariant.1 in
+    let rec = c.in-Some.rec in
+    let left = c.next.new.self in
+    let told = one_more_lem _ c.loop-rec.invariant.0 (cut_next cut rec left c.in-Some.ensures.steps) c.take_record-told.ensures in
+    (rw (length_push c.loop-rec.yielded rec) told, cut_more cut rec left c.in-Some.ensures.steps)
 
 pub returns : goal.returns
 returns c =
-    let l = c.loop-i in
-    all_told l.invariant.0 (omega (arith, l.invariant.1, c.loop-i-test.false)) c.requires
+    all_told c.loop-rec.invariant.0 (cut_all c.loop-rec.invariant.1 c.next.new.self c.in-None.ensures.steps) c.requires

@@ -1,11 +1,9 @@
--- `capture::write_records` meets its contract: the first i records are told (`Telling`). The measure is the number of records that are left.
+-- The loop over the records of an input: those that were taken are told (`Telling`), and the others are left (`Cut`).
 -- Assumes nothing.
-use Prim.Native.Nat.{◌-◌, ◌≤◌}
+use lib.ListN.{length}
+use Rattle.fields.proofs.Cut.{Cut}
 use Rattle.navfile.proofs.Telling.{Sofar}
 use Rattle.navfile.proofs.capture.write_records.Given as goal
 
-abbrev pub invariant-loop-i : goal.invariant-loop-i
-invariant-loop-i l = Sofar l.card l.initial.after l.input l.initial.text l.text l.after l.end l.i × (l.i ≤ l.count)
-
-abbrev pub decreases-loop-i : goal.decreases-loop-i
-decreases-loop-i l = l.count - l.i
+abbrev pub invariant-loop-rec : goal.invariant-loop-rec
+invariant-loop-rec l = Sofar l.card l.initial.after l.input l.initial.text l.text l.after l.end (length l.yielded) × Cut l.input l.yielded l.rec-iterator

@@ -1,5 +1,5 @@
 -- `coding::read_symbols` meets its contract. The loop's invariant: `before` is the byte sent before the byte at k, the first symbol standing before
--- the first byte, and the bytes of `out` below k are made. The measure is how many bytes are left.
+-- the first byte, and the bytes of `out` below k are made.
 -- Assumes nothing.
 use mathlib.Core.Path.{◌≡◌, refl, ap₂, ◌∙◌}
 use Prim.Native.Nat.{ℕ, ◌+◌, ◌*◌, ◌%◌}

@@ -1,18 +1,17 @@
--- `searching::next_place` meets its contract: the search from where the loop stands is the search from the start. The measure is the number of bytes that are
--- left.
--- Assumes nothing.
-use native.Mathlib.Omega.{arith}
-use native.Mathlib.Numerals.{add-one}
-use mathlib.Core.Path.{◌∙◌, ap, sym}
-use Rattle.salvage.specs.Items.{next_place}
-use Rattle.salvage.proofs.Places.{search, search_on}
+-- `searching::next_place` meets its contract: what is found is the first place after the refused one. Assumes nothing.
+use borrow.Author.Rules.{rules}
+use mathlib.Core.Path.{◌≡◌, ◌∙◌}
+use mathlib.Core.Bool.{true, false}
+use Rattle.std.proofs.Common.{tests}
+use Rattle.std.proofs.lemmas.Iterator.{first_from_Range}
+use Rattle.salvage.specs.Items.{resumes}
+use Rattle.salvage.proofs.Places.{next_found}
 use Rattle.salvage.proofs.searching.next_place.Goals as goal
 
-pub loop-q-init : goal.loop-q-init
-unfolding next_place
-loop-q-init c = (omega arith, ap (search c.args.s.now) (add-one c.args.at))
-
-pub loop-q-preserved : goal.loop-q-preserved
-loop-q-preserved c =
+pub returns : goal.returns
+returns c =
     let s = c.args.s.now in
-    (omega arith, ap (search s) (add-one c.loop-q.q) ∙ sym (search_on s c.loop-q.q c.loop-q-test.true (sym c.goes_on.ensures ∙ c.if-goes_on.false)) ∙ c.loop-q.invariant.1)
+    c.unwrap_or.ensures
+    ∙ next_found s c.args.at c.find.result c.requires
+    (first_from_Range _ _ _ c.find.result (λ q. resumes s q ≡ true) (λ q. resumes s q ≡ false) c.find.ensures.ran (λ x q k. search (rules, tests))
+    (λ x q k. (search rules, search (rules, tests))))

@@ -2,6 +2,6 @@
 use Rattle.seen.specs.Seen.{seen_by}
 use Rattle.seen.proofs.seeing.seen_by.Goals as goal
 
-pub returns-in-Taken : goal.returns-in-Taken
+pub returns-in-Ok : goal.returns-in-Ok
 unfolding seen_by
-returns-in-Taken c = rw (c.in-Taken.is, c.bit_in.ensures, c.polarity_number.ensures)
+returns-in-Ok c = rw (c.in-Ok.is, c.bit_in.ensures, c.polarity_number.ensures)

@@ -7,4 +7,4 @@ pub returns : goal.returns
 returns c =
     let a = c.args in
     let l = c.loop-i in
-    ends a.first a.second l.i l.joined (search rules) l.invariant.1
+    ends a.first a.second l.i l.e-items (search rules) l.invariant

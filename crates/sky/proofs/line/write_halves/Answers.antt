@@ -24,12 +24,9 @@ more s o out at j b f h e out' q =
     (front_more f (b ∷ (1 - b) ∷ []) out' 2 refl h q)
 
 pub loop-j-init : goal.loop-j-init
-loop-j-init c =
-    (omega arith, start c.args.s.now c.args.out.now c.args.at)
+loop-j-init c = start c.args.s.now c.args.out.now c.args.at
 
 pub loop-j-preserved : goal.loop-j-preserved
-loop-j-preserved c = (
-  omega arith,
-  more c.args.s.now c.args.out.now c.loop-j.out c.args.at c.loop-j.j c.symbol-b.result c.loop-j.invariant.1 (omega (arith, c.requires.1)) c.symbol-b.ensures _
-      (two_set c.loop-j.out (c.args.at + 2 * c.loop-j.j) c.symbol-b.result (1 - c.symbol-b.result) (omega (arith, c.requires.1, c.loop-j.invariant.1.long))),
-)
+loop-j-preserved c =
+    more c.args.s.now c.args.out.now c.loop-j.out c.args.at c.loop-j.j c.symbol-b.result c.loop-j.invariant (omega (arith, c.requires.1)) c.symbol-b.ensures _
+    (two_set c.loop-j.out (c.args.at + 2 * c.loop-j.j) c.symbol-b.result (1 - c.symbol-b.result) (omega (arith, c.requires.1, c.loop-j.invariant.long)))

@@ -24,19 +24,16 @@ unfolding sky_lines
 all sky o out h g = lines_done (sent sky) o out h g
 
 pub loop-i-init : goal.loop-i-init
-loop-i-init c =
-    (omega arith, lines_none (sent c.args.sky) c.args.out.now)
+loop-i-init c = lines_none (sent c.args.sky) c.args.out.now
 
 pub loop-i-preserved : goal.loop-i-preserved
 loop-i-preserved c =
-    let k = c.loop-i.i in (
-      omega arith,
-      lines_more (sent c.args.sky) c.args.out.now c.loop-i.out _ k c.loop-i.invariant.1 (omega (arith, c.requires.1))
-          (c.write_line.ensures
-          ∙ ap (λ (x : List ℕ). take (200 * k) c.loop-i.out ++ (line_of x ++ drop (200 * k + 200) c.loop-i.out)) (c.relative_in-s.ensures ∙ next c.args.sky k)),
-    )
+    let k = c.loop-i.i in
+    lines_more (sent c.args.sky) c.args.out.now c.loop-i.out _ k c.loop-i.invariant (omega (arith, c.requires.1))
+    (c.write_line.ensures
+    ∙ ap (λ (x : List ℕ). take (200 * k) c.loop-i.out ++ (line_of x ++ drop (200 * k + 200) c.loop-i.out)) (c.relative_in-s.ensures ∙ next c.args.sky k))
 
 pub returns : goal.returns
 returns c =
     let e : c.loop-i.i ≡ 75 = omega arith in
-    all c.args.sky c.args.out.now c.loop-i.out c.requires.1 (rw e at c.loop-i.invariant.1)
+    all c.args.sky c.args.out.now c.loop-i.out c.requires.1 (rw e at c.loop-i.invariant)

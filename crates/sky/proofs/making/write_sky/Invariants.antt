@@ -1,5 +1,5 @@
 -- `sky::making::write_sky` meets its contract. Assumes nothing.
-use Prim.Native.Nat.{ℕ, suc, ◌-◌, ◌*◌, ◌≤◌}
+use Prim.Native.Nat.{ℕ, suc, ◌*◌}
 use mathlib.Core.List.{List}
 use Rattle.superframe.specs.declared.Sky.{Sky}
 use Rattle.superframe.specs.Sky.{sky_string}
@@ -12,7 +12,4 @@ abbrev sent : Sky → ℕ → List ℕ
 sent sky i = relative_bytes (sky_string sky (suc i))
 
 abbrev pub invariant-loop-i : goal.invariant-loop-i
-invariant-loop-i l = (l.i ≤ 75) × Front l.initial.out (lines_of (sent l.sky) l.i) l.out (200 * l.i)
-
-abbrev pub decreases-loop-i : goal.decreases-loop-i
-decreases-loop-i l = 75 - l.i
+invariant-loop-i l = Front l.initial.out (lines_of (sent l.sky) l.i) l.out (200 * l.i)

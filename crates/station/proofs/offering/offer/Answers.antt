@@ -4,17 +4,17 @@ use Rattle.station.proofs.Served.{opened, shut}
 use Rattle.station.proofs.AfterOffer.{offer_shut, after_offer_lem, offer_open}
 use Rattle.station.proofs.offering.offer.Goals as goal
 
-pub returns-in-Shut : goal.returns-in-Shut
-returns-in-Shut c =
+pub returns-in-Err : goal.returns-in-Err
+returns-in-Err c =
     let a = c.args in
-    offer_shut a.st a.card a.channel a.epoch a.s.now _ (shut a.card a.channel c.enter-gate.ensures c.in-Shut.is)
+    offer_shut a.st a.card a.channel a.epoch a.s.now _ (shut a.card a.channel c.enter-gate.ensures c.in-Err.is)
 
-pub returns-in-Open : goal.returns-in-Open
+pub returns-in-Ok : goal.returns-in-Ok
 unfolding no_row
-returns-in-Open c =
+returns-in-Ok c =
     let b = c.bring_if-brought in
     let a = c.args in
-    offer_open a.st a.card a.channel _ a.epoch a.s.now _ (opened a.card a.channel c.enter-gate.ensures c.in-Open.is)
+    offer_open a.st a.card a.channel _ a.epoch a.s.now _ (opened a.card a.channel c.enter-gate.ensures c.in-Ok.is)
     (λ f.
     after_offer_lem a.st a.card _ a.epoch a.s.now c.offer-offered.result b.result.book b.result.changed c.next_summary-kept.result
     f c.offer-offered.ensures b.ensures.0 b.ensures.1 c.next_summary-kept.ensures)

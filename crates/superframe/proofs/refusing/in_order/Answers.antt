@@ -1,23 +1,15 @@
--- `superframe::refusing::in_order_lem` meets its contract. Assumes nothing.
-use mathlib.Core.Path.{sym, ap, ◌∙◌}
-use mathlib.Core.Bool.{not}
-use native.Mathlib.Omega.{arith}
-use Rattle.superframe.proofs.Lowest.{right_none, right_more, wrong_here}
+-- `superframe::refusing::in_order` meets its contract. Assumes nothing.
+use borrow.Author.Rules.{rules}
+use mathlib.Core.Path.{◌≡◌, refl}
+use mathlib.Core.Bool.{true, false}
+use Rattle.std.proofs.Common.{tests}
+use Rattle.std.proofs.lemmas.Iterator.{cases_from_all, YieldsList-from_range}
+use Rattle.superframe.proofs.Lowest.{carries, slots_found}
 use Rattle.superframe.proofs.refusing.in_order.Goals as goal
 
-pub loop-k-init : goal.loop-k-init
-loop-k-init c = ((omega arith, omega arith), right_none c.args.sky)
-
-pub returns-then-not-is_slot : goal.returns-then-not-is_slot
-returns-then-not-is_slot c =
-    let s = c.args.sky in
-    let k = c.loop-k.k in
-    sym (ap not (wrong_here s k c.loop-k.invariant.0.0 c.loop-k.invariant.1 (sym c.is_slot.ensures ∙ c.if-not-is_slot.true) 24 (omega (arith, c.loop-k-test.true))))
-
-pub loop-k-preserved : goal.loop-k-preserved
-loop-k-preserved c =
-    let s = c.args.sky in
-    let k = c.loop-k.k in (
-      (omega arith, omega (arith, c.loop-k-test.true)),
-      right_more s k c.loop-k.invariant.0.0 c.loop-k.invariant.1 (sym c.is_slot.ensures ∙ c.if-not-is_slot.false),
-    )
+pub returns : goal.returns
+returns c =
+    let sky = c.args.sky in
+    slots_found sky c.all.result
+    (cases_from_all _ _ c.all.result (λ k. carries sky k ≡ true) (λ k. carries sky k ≡ false) c.all.ensures.ran (YieldsList-from_range 1 25 24 refl refl)
+    (λ x q k. search (rules, tests)) (λ x q k. search (rules, tests)))

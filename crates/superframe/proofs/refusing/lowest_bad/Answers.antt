@@ -1,22 +1,17 @@
 -- `superframe::refusing::lowest_bad` meets its contract. Assumes nothing.
-use mathlib.Core.Path.{sym, ◌∙◌}
-use native.Mathlib.Omega.{arith}
-use Rattle.superframe.proofs.Lowest.{low_none, low_more, lowest_here}
+use borrow.Author.Rules.{rules}
+use mathlib.Core.Path.{◌≡◌, ◌∙◌}
+use mathlib.Core.Bool.{true, false}
+use Rattle.std.proofs.Common.{tests}
+use Rattle.std.proofs.lemmas.Iterator.{first_from_Range}
+use Rattle.superframe.specs.Refused.{string_bad}
+use Rattle.superframe.proofs.Lowest.{lowest_found}
 use Rattle.superframe.proofs.refusing.lowest_bad.Goals as goal
 
-pub loop-i-init : goal.loop-i-init
-loop-i-init c = ((omega arith, omega arith), low_none c.args.sky)
-
-pub returns-then-is_bad : goal.returns-then-is_bad
-returns-then-is_bad c =
-    let s = c.args.sky in
-    let i = c.loop-i.i in
-    lowest_here s i c.loop-i.invariant.0.0 c.loop-i.invariant.1 (sym c.is_bad.ensures ∙ c.if-is_bad.true) 75 (omega (arith, c.loop-i-test.true))
-
-pub loop-i-preserved : goal.loop-i-preserved
-loop-i-preserved c =
-    let s = c.args.sky in
-    let i = c.loop-i.i in (
-      (omega arith, omega (arith, c.loop-i-test.true)),
-      low_more s i c.loop-i.invariant.0.0 c.loop-i.invariant.1 (sym c.is_bad.ensures ∙ c.if-is_bad.false),
-    )
+pub returns : goal.returns
+returns c =
+    let sky = c.args.sky in
+    c.unwrap_or.ensures
+    ∙ lowest_found sky c.find.result
+    (first_from_Range _ _ _ c.find.result (λ i. string_bad sky i ≡ true) (λ i. string_bad sky i ≡ false) c.find.ensures.ran (λ x q k. search (rules, tests))
+    (λ x q k. (search rules, search (rules, tests))))

@@ -9,8 +9,8 @@ use Rattle.book.specs.declared.Entry.{Entry}
 use Rattle.book.specs.declared.Book.{Book}
 use Rattle.book.specs.Book.{slots, empty_book}
 use Rattle.book.proofs.Joins.{empty_full}
-use Rattle.wire.specs.Bytes.{entry_from, entries_from, book_from}
-use Rattle.wire.proofs.Begun.{Begun, begun_none, begun_set, begun_all}
+use Rattle.wire.specs.Bytes.{entry_from, entries_from}
+use Rattle.wire.proofs.Begun.{Begun, begun_none, begun_set}
 use Rattle.wire.proofs.Entries.{entries_more}
 use Rattle.wire.proofs.reading.book_from.Goals as goal
 
@@ -22,12 +22,8 @@ more : (s : List ℕ) (es : List Entry) (e : Entry) (i : ℕ) → i < slots → 
     → Begun slots i es (entries_from i s) → Begun slots (i + 1) (set es i e) (entries_from (i + 1) s)
 more s es e i h q b = rw (add-one i, entries_more i s, ← q) (begun_set e h b)
 
-all : (s : List ℕ) (b : Book) → Begun slots slots b.entries (entries_from slots s) → b ≡ book_from s
-all s b g = ap (λ (es : List Entry). record { entries = es }) (begun_all g)
-
 pub loop-i-init : goal.loop-i-init
-loop-i-init c = (omega arith, start _ _ c.empty_book-b.ensures)
+loop-i-init c = start _ _ c.empty_book-b.ensures
 
 pub loop-i-preserved : goal.loop-i-preserved
-loop-i-preserved c =
-    (omega arith, more c.args.bytes _ c.entry_at.result c.loop-i.i (omega arith) c.entry_at.ensures c.loop-i.invariant.1)
+loop-i-preserved c = more c.args.bytes _ c.entry_at.result c.loop-i.i (omega (arith, c.loop-i.invariant.long)) c.entry_at.ensures c.loop-i.invariant

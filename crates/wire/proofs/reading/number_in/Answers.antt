@@ -10,9 +10,9 @@ room : (i : ℕ) → i ≤ 7 → 2 ^ (8 * i) ≤ 2 ^ 56
 room i h = pow_mono {i = 8 * i} {j = 56} (omega arith)
 
 pub overflow_mul-x : goal.overflow_mul-x
-overflow_mul-x c = let l = c.loop-i in omega (arith, l.invariant.small, room l.i (omega (arith, c.requires)))
+overflow_mul-x c = let l = c.loop-b in omega (arith, l.invariant.small, room l.b-index (omega (arith, c.requires)))
 
-pub loop-i-preserved : goal.loop-i-preserved
-loop-i-preserved c =
-    let l = c.loop-i in
-    read_more _ l.i l.x (omega arith) (c.shared_slice_known-1.given l.i).fits l.invariant
+pub loop-b-preserved : goal.loop-b-preserved
+loop-b-preserved c =
+    let l = c.loop-b in
+    read_more _ l.b-index l.x (omega arith) (c.type_inv.s l.b-index).fits l.invariant

@@ -1,18 +1,17 @@
 -- `writing::put_entries` meets its contract. The invariant: the bytes of the entries passed are written (`Begun`). Assumes nothing.
 use borrow.Author.Rules.{rules}
-use mathlib.Core.Path.{◌≡◌, ap, ◌∙◌}
+use mathlib.Core.Path.{◌≡◌, ◌∙◌}
 use mathlib.Core.List.{List}
 use Prim.Native.Nat.{ℕ, ◌+◌, ◌-◌, ◌*◌, ◌<◌}
 use native.Mathlib.Omega.{arith}
 use native.Mathlib.Numerals.{add-one}
 use lib.ListN.{length, get_or, take}
-use lib.Seq.{take_all}
 use borrow.Rule.Slice.PartMut.{put_mid, mid_of}
 use Rattle.book.specs.declared.Entry.{Entry}
 use Rattle.book.specs.Entry.{meaning, blank}
 use Rattle.book.specs.Book.{slots}
 use Rattle.wire.specs.Bytes.{entry_bytes, entries_bytes}
-use Rattle.wire.proofs.Begun.{Begun, begun_none, begun_part, begun_all, part_long}
+use Rattle.wire.proofs.Begun.{Begun, begun_none, begun_part, part_long}
 use Rattle.wire.proofs.Entries.{entry_long, bytes_more}
 use Rattle.wire.proofs.writing.put_entries.Goals as goal
 
@@ -34,14 +33,11 @@ more es out last i l h e b =
     let d : (i + 1) * 20 ≡ i * 20 + 20 = omega arith in
     rw (twenty i, d, add-one i, bytes_more es i (omega (arith, l))) (begun_part (omega arith) (entry_long (meaning (get_or es i blank))) e b)
 
-all : (es : List Entry) (out : List ℕ) → length es ≡ slots → Begun 480 480 out (entries_bytes (take slots es)) → out ≡ entries_bytes es
-all es out l b = begun_all b ∙ ap entries_bytes (take_all slots es (omega (arith, l)))
-
 pub loop-i-init : goal.loop-i-init
-loop-i-init c = (omega arith, start c.args.entries _ c.requires)
+loop-i-init c = start c.args.entries _ c.requires
 
 pub loop-i-preserved : goal.loop-i-preserved
 loop-i-preserved c =
     let l = c.loop-i in
     let es = c.args.entries in
-    (omega arith, more es l.out _ l.i (search rules) (omega arith) c.put_entry.ensures l.invariant.1)
+    more es l.out _ l.i (search rules) (omega arith) c.put_entry.ensures l.invariant

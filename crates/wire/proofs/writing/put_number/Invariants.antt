@@ -5,6 +5,3 @@ use Rattle.wire.proofs.writing.put_number.Given as goal
 
 abbrev pub invariant-loop-i : goal.invariant-loop-i
 invariant-loop-i l = Put (length l.initial.out) l.x l.out l.i l.rest
-
-abbrev pub decreases-loop-i : goal.decreases-loop-i
-decreases-loop-i l = l.i

@@ -32,7 +32,7 @@ loop-j-preserved c =
     let z : to_z w32 (of_z w32 c.value_of.result) ≡ value_in w (word_of n w.top w.low) =
     to_z-of_z f ∙ c.value_of.ensures ∙ ap (value_in w) c.word_in-raw.ensures in (
       (omega arith, simp length-set l.invariant.0.1),
-      rw z (values_step (layout a.k) l.v l.j w (rw (layout_long a.k) h) (rw l.invariant.0.1 h) c.word_at-w.ensures.0 n l.invariant.1),
+      rw z (values_step (layout a.k) l.value-items l.j w (rw (layout_long a.k) h) (rw l.invariant.0.1 h) c.word_at-w.ensures.0 n l.invariant.1),
     )
 
 pub returns : goal.returns
@@ -42,4 +42,4 @@ returns c =
     let n = values_of (number_of a.s.now) (layout a.k) in
     let j : l.j ≡ 8 = omega arith in
     let k : length n ≡ 8 = values_long (number_of a.s.now) (layout a.k) ∙ layout_long a.k in
-    sym (take_all 8 l.v (omega (arith, l.invariant.0.1))) ∙ rw j at l.invariant.1 ∙ take_all 8 n (omega (arith, k))
+    sym (take_all 8 l.value-items (omega (arith, l.invariant.0.1))) ∙ rw j at l.invariant.1 ∙ take_all 8 n (omega (arith, k))

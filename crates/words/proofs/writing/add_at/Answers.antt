@@ -5,7 +5,7 @@ use Rattle.words.proofs.Carrying.{carry_start, carry_step, carry_none, carry_end
 use Rattle.words.proofs.writing.add_at.Goals as goal
 
 pub loop-i-init : goal.loop-i-init
-loop-i-init c = carry_start _ _ _ c.requires.out_len (λ i. (c.slice_known-1.given i).fits) c.requires.at_bound.0 c.requires.at_bound.1
+loop-i-init c = carry_start _ _ _ c.requires.out_len (λ i. (c.type_inv.out i).fits) c.requires.at_bound.0 c.requires.at_bound.1
 
 pub returns-then-carry-eq0 : goal.returns-then-carry-eq0
 returns-then-carry-eq0 c = let l = c.loop-i in carry_none _ _ _ _ l.i l.carry c.if-carry-eq0.true l.invariant

@@ -4,6 +4,3 @@ use Rattle.words.proofs.writing.add_at.Given as goal
 
 abbrev pub invariant-loop-i : goal.invariant-loop-i
 invariant-loop-i l = Carrying l.initial.out l.at l.v l.out l.i l.carry
-
-abbrev pub decreases-loop-i : goal.decreases-loop-i
-decreases-loop-i l = l.i

@@ -1,6 +1,6 @@
 -- `writing::put_words` meets its contract: before place j, the words of the places from j on are still to be added. Assumes nothing.
 use mathlib.Core.Path.{◌≡◌}
-use Prim.Native.Nat.{◌+◌, ◌-◌, ◌*◌, ◌≤◌}
+use Prim.Native.Nat.{◌+◌, ◌*◌, ◌≤◌}
 use lib.ListN.{length, drop}
 use Rattle.strings.specs.Number.{value_of, bytes_of}
 use Rattle.strings.proofs.Value.{Bytes}
@@ -10,7 +10,4 @@ use Rattle.words.proofs.writing.put_words.Given as goal
 
 abbrev pub invariant-loop-j : goal.invariant-loop-j
 invariant-loop-j l = ((l.j ≤ 8) × ((length l.out ≡ 11) × Bytes l.out))
-    × (bytes_of 11 (value_of l.out + data_of (drop l.j (layout l.k)) (drop l.j l.v) * 8) ≡ bytes_of 11 (value_of l.initial.out + data_of (layout l.k) l.v * 8))
-
-abbrev pub decreases-loop-j : goal.decreases-loop-j
-decreases-loop-j l = 8 - l.j
+    × (bytes_of 11 (value_of l.out + data_of (drop l.j (layout l.k)) (drop l.j l.fn.v) * 8) ≡ bytes_of 11 (value_of l.initial.out + data_of (layout l.k) l.fn.v * 8))

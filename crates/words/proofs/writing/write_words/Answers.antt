@@ -5,8 +5,8 @@ use mathlib.Core.List.{List}
 use Prim.Native.Nat.{ℕ, ◌+◌, ◌*◌, ◌^◌, ◌<◌}
 use lib.IntN.{ℤ}
 use lib.ListN.{length}
-use Rattle.strings.specs.declared.Written.TheVariants.{Done}
 use Rattle.strings.specs.Number.{number_of, padding_of, bytes_of_string}
+use Rattle.std.specs.Prelude.{Ok}
 use Rattle.strings.specs.Hamming.{encode}
 use Rattle.strings.proofs.Value.{string_length, string_number_lem, string_padding}
 use Rattle.records.specs.declared.kinds.Kind.{Kind}
@@ -122,5 +122,5 @@ returns c =
     let room = c.if-out-ne11.false in
     let e = made c in
     let w = c.copy_from_slice.ensures.after ∙ e in
-    subst (Writes a.m a.r a.out.now Done) (sym w)
+    subst (Writes a.m a.r a.out.now (Ok tt)) (sym w)
     (write_done a.m a.r a.out.now room (of_kind_lem-2 c) (in_range_lem c))

@@ -1,8 +1,0 @@
--- `requests::answer_from` is safe and ends: the measure is the number of turns that are left. Nothing has to hold from turn to turn. Assumes nothing.
-use Rattle.requests.proofs.answer_from.Given as goal
-
-abbrev pub invariant-loop-turns : goal.invariant-loop-turns
-invariant-loop-turns g l = Unit {0}
-
-abbrev pub decreases-loop-turns : goal.decreases-loop-turns
-decreases-loop-turns g l = l.turns
