@@ -2,6 +2,7 @@
 #![tactic(auto)]
 
 use channel::TakenString;
+use streams::write_all;
 use strings::Refusal;
 
 // The paper's string B: string 1, its data zero, in relative form.
@@ -23,10 +24,18 @@ fn main(rt: HostRuntime) {
     tell(&rt, fourth.answer);
 }
 
-// A line that cannot be written is let go.
-fn tell(rt: &HostRuntime, answer: Result<TakenString, Refusal>) {
-    let _ = match answer {
-        Ok(taken) => println!(rt; "taken, string {}", taken.m),
-        Err(why) => println!(rt; "refused, number {}", strings::refusal_number(why)),
-    };
+fn tell<R: Print>(rt: &R, answer: Result<TakenString, Refusal>) {
+    match answer {
+        Ok(taken) => tell_number(rt, b"taken, string ", taken.m),
+        Err(why) => tell_number(rt, b"refused, number ", strings::refusal_number(why)),
+    }
+}
+
+// What cannot be written is let go.
+fn tell_number<R: Print>(rt: &R, text: &[u8], n: u8) {
+    let mut digits = [0u8; 20];
+    let k = io::decimal(n as u64, &mut digits);
+    write_all(rt, text);
+    write_all(rt, &digits[..k]);
+    write_all(rt, b"\n");
 }
